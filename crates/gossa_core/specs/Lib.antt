@@ -1,0 +1,11 @@
+pub mod Answer
+pub mod Names
+pub mod Narrow
+pub mod NarrowParts
+pub mod Numbered
+pub mod Parameters
+pub mod Places
+pub mod Plain
+pub mod Row
+pub mod Status
+pub mod Words

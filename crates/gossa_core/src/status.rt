@@ -1,0 +1,88 @@
+// How the program ends.
+
+ghost use Rattle.std.specs.Prelude.{◌≡◌};
+ghost use Rattle.gossa_core.specs.Status.{number_of};
+ghost use Rattle.gossa_core.specs.Answer.{status_of, line_of};
+
+/// How the program ends, by the number that its process ends with.
+#[derive(Clone, Copy, Debug, PartialEq, Eq)]
+pub enum Status {
+    /// 0: all output was written.
+    Done,
+    /// 1: the input was refused.
+    Refused,
+    /// 2: the words are no command.
+    Usage,
+    /// 3: the input could not be read.
+    ReadFault,
+    /// 4: the output could not be written.
+    WriteFault,
+    /// 5: there was no memory.
+    NoMemory,
+}
+
+impl Status {
+    /// The number that the process ends with.
+    pub fn number(self) -> u8
+        ensures { result ≡ number_of self }
+    {
+        match self {
+            Status::Done => 0,
+            Status::Refused => 1,
+            Status::Usage => 2,
+            Status::ReadFault => 3,
+            Status::WriteFault => 4,
+            Status::NoMemory => 5,
+        }
+    }
+}
+
+/// Why the program ends: a status, and the reason for it.
+#[derive(Clone, Copy, Debug, PartialEq, Eq)]
+pub enum Outcome {
+    /// All output was written.
+    Done,
+    /// The input spells no function that is compiled so far.
+    NotBuilt,
+    /// The input has more bytes than are read.
+    TooLong,
+    /// The words are no command.
+    Usage,
+    /// The input could not be read.
+    ReadFault,
+    /// The output could not be written.
+    WriteFault,
+    /// There was no memory.
+    NoMemory,
+}
+
+impl Outcome {
+    /// The status of this outcome.
+    pub fn status(self) -> Status
+        ensures { result ≡ status_of self }
+    {
+        match self {
+            Outcome::Done => Status::Done,
+            Outcome::NotBuilt | Outcome::TooLong => Status::Refused,
+            Outcome::Usage => Status::Usage,
+            Outcome::ReadFault => Status::ReadFault,
+            Outcome::WriteFault => Status::WriteFault,
+            Outcome::NoMemory => Status::NoMemory,
+        }
+    }
+
+    /// The line that goes to the error stream, ended by LF; none where all went well.
+    pub fn line(self) -> &'static [u8]
+        ensures { result.now ≡ line_of self }
+    {
+        match self {
+            Outcome::Done => b"",
+            Outcome::NotBuilt => b"gossa: not built\n",
+            Outcome::TooLong => b"gossa: input too long\n",
+            Outcome::Usage => { b"usage: gossa compile [-regs=N] | run | step | demo SEED SIZE\n" }
+            Outcome::ReadFault => b"gossa: read failed\n",
+            Outcome::WriteFault => b"gossa: write failed\n",
+            Outcome::NoMemory => b"gossa: out of memory\n",
+        }
+    }
+}

@@ -1,0 +1,379 @@
+// What no clause says: that calls succeed where memory is left, what listings look like, and what is told and left
+// where a stream fails.
+
+use crate::{Command, Outcome, Status, gossa, read_words};
+use gossa_base::{MemSink, MemSource, NoMemory, read_all};
+use std::alloc::{AllocError, Global};
+use std::process::Abort;
+use std::test::Fail;
+
+const SUM: &str = "func f(int64, int64) (int64)\n\
+b1:\n\
+v1 = InitMem <mem>\n\
+v2 = Arg <int64> [0]\n\
+v3 = Arg <int64> [1]\n\
+v4 = Add64 <int64> v2 v3\n\
+v5 = MakeResult <int64,mem> v4 v1\n\
+Ret v5\n";
+
+const SUM_LISTING: &str =
+    "TEXT f(int64, int64) (int64), frame=32, out=0, ptr=0, scalar=3, regs=24\n\
+b1: R0=v2 R1=v3\n\
+MOVD R0, 8(RSP) // spill v2\n\
+MOVD R1, 16(RSP) // spill v3\n\
+MOVD 8(RSP), R0 // load v2\n\
+MOVD 16(RSP), R1 // load v3\n\
+ADD R1, R0, R0 // v4\n\
+MOVD R0, 24(RSP) // spill v4\n\
+MOVD 24(RSP), R0 // results\n\
+RET\n";
+
+const SAME: &str = "func f(int64) (int64)\n\
+b1:\n\
+v1 = InitMem <mem>\n\
+v2 = Arg <int64> [0]\n\
+v3 = MakeResult <int64,mem> v2 v1\n\
+Ret v3\n";
+
+const SAME_LISTING: &str = "TEXT f(int64) (int64), frame=16, out=0, ptr=0, scalar=1, regs=24\n\
+b1: R0=v2\n\
+MOVD R0, 8(RSP) // spill v2\n\
+MOVD 8(RSP), R0 // results\n\
+RET\n";
+
+// Parameters that are taken out of order and late, a constant, and a sum of one value and itself.
+const MIXED: &str = "func g(int64, int64) (int64)\n\
+b1:\n\
+v1 = InitMem <mem>\n\
+v2 = Const64 <int64> [-5]\n\
+v3 = Add64 <int64> v2 v2\n\
+v4 = Arg <int64> [1]\n\
+v5 = Arg <int64> [0]\n\
+v6 = Add64 <int64> v4 v3\n\
+v7 = MakeResult <int64,mem> v6 v1\n\
+Ret v7\n";
+
+const MIXED_LISTING: &str =
+    "TEXT g(int64, int64) (int64), frame=48, out=0, ptr=0, scalar=4, regs=24\n\
+b1: R0=v5 R1=v4\n\
+MOVD R0, 24(RSP) // spill v5\n\
+MOVD R1, 16(RSP) // spill v4\n\
+MOVD $-5, R0 // load v2\n\
+ADD R0, R0, R0 // v3\n\
+MOVD R0, 8(RSP) // spill v3\n\
+MOVD 16(RSP), R0 // load v4\n\
+MOVD 8(RSP), R1 // load v3\n\
+ADD R1, R0, R0 // v6\n\
+MOVD R0, 32(RSP) // spill v6\n\
+MOVD 32(RSP), R0 // results\n\
+RET\n";
+
+// A parameter that is not taken, and a constant that is returned.
+const SEVEN: &str = "func seven(int64) (int64)\n\
+b1:\n\
+v1 = InitMem <mem>\n\
+v2 = Const64 <int64> [7]\n\
+v3 = MakeResult <int64,mem> v2 v1\n\
+Ret v3\n";
+
+const SEVEN_LISTING: &str = "TEXT seven(int64) (int64), frame=0, out=0, ptr=0, scalar=0, regs=24\n\
+b1:\n\
+MOVD $7, R0 // results\n\
+RET\n";
+
+/// How the streams of a run move: the most bytes of one call, and which calls fail, by their numbers from 1.
+#[derive(Clone, Copy)]
+struct Streams<'a> {
+    piece: usize,
+    read_faults: &'a [u64],
+    write_faults: &'a [u64],
+    tell_faults: &'a [u64],
+}
+
+/// What a run has to come to: its status, what it wrote and told, and what it left unread.
+#[derive(Clone, Copy)]
+struct Wanted<'a> {
+    status: Status,
+    written: &'a [u8],
+    told: &'a [u8],
+    left: &'a [u8],
+}
+
+const SOUND: Streams<'static> = Streams {
+    piece: 4096,
+    read_faults: &[],
+    write_faults: &[],
+    tell_faults: &[],
+};
+
+const BYTE_BY_BYTE: Streams<'static> = Streams {
+    piece: 1,
+    read_faults: &[],
+    write_faults: &[],
+    tell_faults: &[],
+};
+
+const READ_FAULT: Streams<'static> = Streams {
+    piece: 16,
+    read_faults: &[2],
+    write_faults: &[],
+    tell_faults: &[],
+};
+
+const WRITE_FAULT: Streams<'static> = Streams {
+    piece: 16,
+    read_faults: &[],
+    write_faults: &[3],
+    tell_faults: &[],
+};
+
+const TELL_FAULT: Streams<'static> = Streams {
+    piece: 16,
+    read_faults: &[],
+    write_faults: &[],
+    tell_faults: &[2],
+};
+
+const NOT_BUILT: Wanted<'static> = Wanted {
+    status: Status::Refused,
+    written: b"",
+    told: b"gossa: not built\n",
+    left: b"",
+};
+
+const TOO_LONG: Wanted<'static> = Wanted {
+    status: Status::Refused,
+    written: b"",
+    told: b"gossa: input too long\n",
+    left: b"",
+};
+
+fn owned(alloc: Global, words: &[&str]) -> Result<Vec<String>, AllocError> {
+    let mut all = Vec::new(alloc);
+    for word in words {
+        all.push(String::from_str(alloc, word)?)?;
+    }
+    Ok(all)
+}
+
+// Runs the program with these words over this input, and sees that it comes to what is wanted.
+fn check_run(
+    rt: &(impl Abort + AllocGlobal),
+    words: &[&str],
+    input: &[u8],
+    streams: Streams<'_>,
+    wanted: Wanted<'_>,
+) -> Result<(), NoMemory> {
+    assert!(rt; streams.piece >= 1);
+    let alloc = rt.alloc();
+    let words = owned(alloc, words)?;
+    let mut source = MemSource::new(alloc, input, streams.piece, streams.read_faults)?;
+    let mut sink = MemSink::new(alloc, 2000, streams.piece, streams.write_faults)?;
+    let mut errs = MemSink::new(alloc, 100, streams.piece, streams.tell_faults)?;
+    let status = gossa(alloc, words.as_slice(), &mut source, &mut sink, &mut errs);
+    assert!(rt; status == wanted.status);
+    assert!(rt; sink.held() == wanted.written);
+    assert!(rt; errs.held() == wanted.told);
+    let Ok(left) = read_all(alloc, &mut source, input.len()) else {
+        return Err(NoMemory);
+    };
+    assert!(rt; left.as_slice() == wanted.left);
+    Ok(())
+}
+
+// Runs `compile` over this text, which has to be done with this listing.
+fn check_listing(
+    rt: &(impl Abort + AllocGlobal),
+    text: &str,
+    listing: &str,
+    streams: Streams<'_>,
+) -> Result<(), NoMemory> {
+    let wanted = Wanted {
+        status: Status::Done,
+        written: listing.as_bytes(),
+        told: b"",
+        left: b"",
+    };
+    check_run(rt, &["compile"], text.as_bytes(), streams, wanted)
+}
+
+// Runs the program with words that are no command, which has to read nothing.
+fn check_usage(rt: &(impl Abort + AllocGlobal), words: &[&str]) -> Result<(), NoMemory> {
+    let wanted = Wanted {
+        status: Status::Usage,
+        written: b"",
+        told: b"usage: gossa compile [-regs=N] | run | step | demo SEED SIZE\n",
+        left: SUM.as_bytes(),
+    };
+    check_run(rt, words, SUM.as_bytes(), SOUND, wanted)
+}
+
+// An outcome has this status, number and line.
+fn check_outcome(rt: &impl Abort, outcome: Outcome, status: Status, number: u8, line: &[u8]) {
+    assert!(rt; outcome.status() == status);
+    assert!(rt; status.number() == number);
+    assert!(rt; outcome.line() == line);
+}
+
+// A value behind the first: a parameter while there are any, then a sum of the value before it.
+fn sized_line(alloc: Global, params: u32, n: u32) -> Result<String, AllocError> {
+    let i = n.saturating_sub(2);
+    if i < params {
+        format!(in alloc; "v{n} = Arg <int64> [{i}]\n")
+    } else {
+        let before = n.saturating_sub(1);
+        format!(in alloc; "v{n} = Add64 <int64> v{before} v2\n")
+    }
+}
+
+// A function that takes each of so many parameters, adds until it has so many values, and returns the last sum.
+fn sized(alloc: Global, params: u32, values: u32) -> Result<String, AllocError> {
+    let mut text = String::from_str(alloc, "func f(int64")?;
+    for _ in 1..params {
+        text.push_str(", int64")?;
+    }
+    text.push_str(") (int64)\nb1:\nv1 = InitMem <mem>\n")?;
+    for n in 2..values {
+        text.push_str(sized_line(alloc, params, n)?.as_str())?;
+    }
+    let last = values.saturating_sub(1);
+    let end = format!(in alloc; "v{values} = MakeResult <int64,mem> v{last} v1\nRet v{values}\n")?;
+    text.push_str(end.as_str())?;
+    Ok(text)
+}
+
+#[test]
+fn writes_listings(rt: HostRuntime) -> Result<(), Fail> {
+    for streams in [SOUND, BYTE_BY_BYTE] {
+        check_listing(&rt, SUM, SUM_LISTING, streams)?;
+        check_listing(&rt, SAME, SAME_LISTING, streams)?;
+        check_listing(&rt, MIXED, MIXED_LISTING, streams)?;
+        check_listing(&rt, SEVEN, SEVEN_LISTING, streams)?;
+    }
+    Ok(())
+}
+
+#[test]
+fn refuses_what_is_not_built(rt: HostRuntime) -> Result<(), Fail> {
+    let with_case = format!(in rt.alloc(); "{SAME}case f 1\nargs 7\n")?;
+    check_run(&rt, &["compile"], b"", SOUND, NOT_BUILT)?;
+    check_run(&rt, &["compile"], with_case.as_bytes(), SOUND, NOT_BUILT)?;
+    Ok(())
+}
+
+#[test]
+fn keeps_its_limits(rt: HostRuntime) -> Result<(), Fail> {
+    for (params, values) in [(17, 500), (16, 501)] {
+        let text = sized(rt.alloc(), params, values)?;
+        check_run(&rt, &["compile"], text.as_bytes(), SOUND, NOT_BUILT)?;
+    }
+    let lines = vec![in rt.alloc(); b'\n'; 8_388_609]?;
+    check_run(&rt, &["compile"], lines.as_slice(), SOUND, TOO_LONG)?;
+    check_run(&rt, &["compile"], &lines.as_slice()[1..], SOUND, NOT_BUILT)?;
+    Ok(())
+}
+
+#[test]
+fn compiles_the_largest(rt: HostRuntime) -> Result<(), Fail> {
+    let words = owned(rt.alloc(), &["compile"])?;
+    let text = sized(rt.alloc(), 16, 500)?;
+    let mut source = MemSource::new(rt.alloc(), text.as_bytes(), 4096, &[])?;
+    let mut sink = MemSink::new(rt.alloc(), 100_000, 4096, &[])?;
+    let mut errs = MemSink::new(rt.alloc(), 100, 4096, &[])?;
+    let status = gossa(
+        rt.alloc(),
+        words.as_slice(),
+        &mut source,
+        &mut sink,
+        &mut errs,
+    );
+    assert!(rt; status == Status::Done);
+    assert!(rt; sink.held().starts_with(b"TEXT "));
+    Ok(())
+}
+
+#[test]
+fn tells_its_usage_and_reads_nothing(rt: HostRuntime) -> Result<(), Fail> {
+    check_usage(&rt, &[])?;
+    check_usage(&rt, &["run"])?;
+    check_usage(&rt, &["compile", "x"])?;
+    Ok(())
+}
+
+#[test]
+fn tells_which_stream_failed(rt: HostRuntime) -> Result<(), Fail> {
+    let read = Wanted {
+        status: Status::ReadFault,
+        written: b"",
+        told: b"gossa: read failed\n",
+        left: &SUM.as_bytes()[16..],
+    };
+    check_run(&rt, &["compile"], SUM.as_bytes(), READ_FAULT, read)?;
+    let write = Wanted {
+        status: Status::WriteFault,
+        written: &SUM_LISTING.as_bytes()[..32],
+        told: b"gossa: write failed\n",
+        left: b"",
+    };
+    check_run(&rt, &["compile"], SUM.as_bytes(), WRITE_FAULT, write)?;
+    let tell = Wanted {
+        status: Status::Refused,
+        written: b"",
+        told: b"gossa: not built",
+        left: b"",
+    };
+    check_run(&rt, &["compile"], b"func", TELL_FAULT, tell)?;
+    check_listing(&rt, SUM, SUM_LISTING, TELL_FAULT)?;
+    Ok(())
+}
+
+#[test]
+fn knows_its_words(rt: HostRuntime) -> Result<(), Fail> {
+    let compile = owned(rt.alloc(), &["compile"])?;
+    assert!(rt; read_words(compile.as_slice()) == Some(Command::Compile { regs: 24 }));
+    let other = owned(rt.alloc(), &["compiled"])?;
+    assert!(rt; read_words(other.as_slice()) == None);
+    Ok(())
+}
+
+#[test]
+fn tells_each_outcome(rt: HostRuntime) {
+    check_outcome(&rt, Outcome::Done, Status::Done, 0, b"");
+    check_outcome(
+        &rt,
+        Outcome::NotBuilt,
+        Status::Refused,
+        1,
+        b"gossa: not built\n",
+    );
+    check_outcome(
+        &rt,
+        Outcome::TooLong,
+        Status::Refused,
+        1,
+        b"gossa: input too long\n",
+    );
+    let usage = b"usage: gossa compile [-regs=N] | run | step | demo SEED SIZE\n";
+    check_outcome(&rt, Outcome::Usage, Status::Usage, 2, usage);
+    check_outcome(
+        &rt,
+        Outcome::ReadFault,
+        Status::ReadFault,
+        3,
+        b"gossa: read failed\n",
+    );
+    check_outcome(
+        &rt,
+        Outcome::WriteFault,
+        Status::WriteFault,
+        4,
+        b"gossa: write failed\n",
+    );
+    check_outcome(
+        &rt,
+        Outcome::NoMemory,
+        Status::NoMemory,
+        5,
+        b"gossa: out of memory\n",
+    );
+}

@@ -1,0 +1,105 @@
+-- The first order of a block: the phis, and then repeatedly the first value in text order whose arguments in the block
+-- stand before it, and, where it makes a memory or calls, behind the readers of the memory that it takes.
+use Rattle.std.specs.Prelude.{ℕ, zero, suc, ◌==◌, Bool, true, false, not, ◌&&◌, ◌||◌, List, [], ◌∷◌, ◌++◌, length, filter, Option, None, Some}
+use Rattle.std.specs.List.{list_all, list_any}
+use Rattle.gossa_base.specs.declared.ids.ValueId.{ValueId}
+use Rattle.ssa_ir.specs.declared.op.Op.{Op}
+use Rattle.ssa_ir.specs.declared.op.Op.TheVariants.{InitMem, Arg, Const, Add, MakeResult, Arm64Add}
+use Rattle.ssa_ir.specs.declared.func.Value.{Value}
+
+-- no op of these functions is a phi
+abbrev pub is_phi : Op → Bool
+is_phi InitMem = false
+is_phi Arg = false
+is_phi (Const w) = false
+is_phi (Add w) = false
+is_phi MakeResult = false
+is_phi Arm64Add = false
+
+-- no op of these functions reads memory
+abbrev pub reads_memory : Op → Bool
+reads_memory InitMem = false
+reads_memory Arg = false
+reads_memory (Const w) = false
+reads_memory (Add w) = false
+reads_memory MakeResult = false
+reads_memory Arm64Add = false
+
+-- no op of these functions takes a memory to make the next, or calls
+abbrev pub changes_memory : Op → Bool
+changes_memory InitMem = false
+changes_memory Arg = false
+changes_memory (Const w) = false
+changes_memory (Add w) = false
+changes_memory MakeResult = false
+changes_memory Arm64Add = false
+
+abbrev pub same_value : ValueId → ValueId → Bool
+same_value a b = a.0 == b.0
+
+-- whether one of these values has this number
+abbrev pub has_value : List Value → ValueId → Bool
+has_value values id = list_any (λ v. same_value v.id id) values
+
+-- the memory that an op takes, of these arguments; no op of these functions takes one to read or change it
+abbrev pub memory_taken : Op → List ValueId → Option ValueId
+memory_taken _ args = None
+
+abbrev pub same_memory : Option ValueId → Option ValueId → Bool
+same_memory None other = false
+same_memory (Some a) None = false
+same_memory (Some a) (Some b) = same_value a b
+
+-- an argument is placed where it isn't of the block, or stands among the values placed
+abbrev pub is_placed : (block placed : List Value) → ValueId → Bool
+is_placed block placed id = not (has_value block id) || has_value placed id
+
+-- the values of the block that read the memory which v takes
+abbrev pub readers_before : (block : List Value) → Value → List Value
+readers_before block v =
+    filter (λ r. reads_memory r.op && same_memory (memory_taken r.op r.args) (memory_taken v.op v.args)) block
+
+-- a value may come next: its arguments are placed, and, where it changes memory, the readers of the memory it takes
+abbrev pub is_ready : (block placed : List Value) → Value → Bool
+is_ready block placed v =
+    list_all (is_placed block placed) v.args
+    && (not (changes_memory v.op) || list_all (λ r. has_value placed r.id) (readers_before block v))
+
+abbrev pub ready_or_later : Value → List Value → Bool → Option (Value × List Value) → Option (Value × List Value)
+ready_or_later v rest true later = Some (v, rest)
+ready_or_later v rest false None = None
+ready_or_later v rest false (Some (u, others)) = Some (u, v ∷ others)
+
+-- the first value that may come next, and the others, where there is one
+abbrev pub split_ready : (block placed rest : List Value) → Option (Value × List Value)
+split_ready block placed [] = None
+split_ready block placed (v ∷ rest) = ready_or_later v rest (is_ready block placed v) (split_ready block placed rest)
+
+-- whether a value of this op stands with another one, as the selects of a call do; no op of these functions does
+abbrev pub is_follower : Op → Bool
+is_follower _ = false
+
+-- the values that stand with a value of this op, in order
+abbrev pub followers_of : (block : List Value) → Value → Op → List Value
+followers_of block v _ = []
+
+-- a value and what stands with it: they are placed together
+abbrev pub item : (block : List Value) → Value → List Value
+item block v = v ∷ followers_of block v v.op
+
+abbrev pub next_then : (block : List Value) → (Value → List Value → List Value) → Option (Value × List Value) → List Value
+next_then block go None = []
+next_then block go (Some (v, others)) = item block v ++ go v others
+
+-- at most n items, each the first that may come next; where none may, the values go round in a circle and none follows
+abbrev pub placed_next : (n : ℕ) → (block placed rest : List Value) → List Value
+placed_next zero block placed rest = []
+placed_next (suc n) block placed rest =
+    next_then block (λ v others. placed_next n block (placed ++ item block v) others) (split_ready block placed rest)
+
+-- the values of a block in first order
+abbrev pub first_order : List Value → List Value
+first_order values =
+    let phis = filter (λ v. is_phi v.op) values in
+    let others = filter (λ v. not (is_follower v.op) && not (is_phi v.op)) values in
+    phis ++ placed_next (length others) values phis others

@@ -1,0 +1,10 @@
+pub mod ArgumentPlaces
+pub mod Edges
+pub mod Evaluation
+pub mod FirstOrder
+pub mod Inputs
+pub mod Run
+pub mod RunLaws
+pub mod Showing
+pub mod Texts
+pub mod Widths

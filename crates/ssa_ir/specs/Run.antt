@@ -1,0 +1,176 @@
+-- The run of an SSA function. A turn takes a counted block: its phis at once, its values in order, its control. Blocks on
+-- split edges take no turn. A run that would begin one turn more than its bound goes on.
+use Rattle.std.specs.Prelude.{ℕ, zero, suc, ℤ, pos, negsuc, ◌-◌, ◌==◌, Bool, true, false, if◌then◌else◌, List, [], ◌∷◌, length, map, take, find, slice_get, Option, None, Some}
+use Rattle.gossa_base.specs.declared.ids.ValueId.{ValueId}
+use Rattle.gossa_base.specs.declared.ids.BlockId.{BlockId}
+use Rattle.gossa_base.specs.Memory.{Memory, changed}
+use Rattle.gossa_base.specs.Words.{low}
+use Rattle.ssa_ir.specs.declared.op.Op.{Op}
+use Rattle.ssa_ir.specs.declared.types.Sig.{Sig}
+use Rattle.ssa_ir.specs.declared.types.Ty.{Ty}
+use Rattle.ssa_ir.specs.declared.func.Value.{Value}
+use Rattle.ssa_ir.specs.declared.func.Kind.{Kind}
+use Rattle.ssa_ir.specs.declared.func.Kind.TheVariants.{Plain, If, Ret, Exit, Cond, Bit}
+use Rattle.ssa_ir.specs.declared.func.Block.{Block}
+use Rattle.ssa_ir.specs.declared.func.Func.{Func}
+use Rattle.ssa_ir.specs.declared.case.End.TheVariants.{Returned, Exited, Going, Stuck}
+use Rattle.ssa_ir.specs.declared.case.Shown.{Shown}
+use Rattle.ssa_ir.specs.Edges.{block_named, edge_number}
+use Rattle.ssa_ir.specs.Evaluation.{eval, Role, Computes, TakesParameter, Rests, role}
+use Rattle.ssa_ir.specs.FirstOrder.{first_order}
+use Rattle.ssa_ir.specs.Inputs.{Inputs, Answer, argument}
+use Rattle.ssa_ir.specs.Showing.{ends, words_at}
+use Rattle.ssa_ir.specs.Widths.{type_bits}
+
+-- the signatures of callees, by name
+abbrev pub Callees : Type 0
+Callees = List ℕ → Option Sig
+
+-- how a function is run: the signatures of its callees; whether its words are whole, as those of a lowered function, or
+-- kept at the widths of their types; all values of a block, and the order in which they are taken
+pub record Form : Type 0 where
+  pub callees : Callees
+  pub whole : Bool
+  pub values : Block → List Value
+  pub order : Block → List Value
+
+-- a function of generic ops, in the first order of each block
+abbrev pub generic : Callees → Form
+generic callees = record { callees = callees; whole = false; values = λ b. b.values; order = λ b. first_order b.values }
+
+-- what a run has at one moment: the word of each value by its number, the memory, the memory from which changes are
+-- counted, the result words of the last call, and the answers that are left
+pub record State : Type 0 where
+  pub words : ℕ → ℕ
+  pub memory : Memory
+  pub since : Memory
+  pub reply : List ℕ
+  pub answers : List Answer
+
+-- a table of words with another word at one number
+abbrev pub put : (ℕ → ℕ) → ℕ → ℕ → ℕ → ℕ
+put words n w k = if k == n then w else words k
+
+abbrev pub with_word : State → ℕ → ℕ → State
+with_word s n w = record s { words = put s.words n w }
+
+-- the word of argument i; an absent one is 0
+abbrev pub operand : (ℕ → ℕ) → List ValueId → ℕ → ℕ
+operand words [] i = 0
+operand words (a ∷ args) zero = words a.0
+operand words (a ∷ args) (suc i) = operand words args i
+
+-- the flags that an op reads, of these arguments; no op of these functions reads any
+abbrev pub flags_word : Op → (ℕ → ℕ) → List ValueId → ℕ
+flags_word _ words args = 0
+
+-- the word that a value computes
+abbrev pub computed : Value → (ℕ → ℕ) → ℕ
+computed v words =
+    eval v.op v.aux (operand words v.args 0) (operand words v.args 1) (operand words v.args 2) (flags_word v.op words v.args)
+
+-- a word that comes from outside, as a function of this form keeps it
+abbrev pub kept : Bool → Ty → ℕ → ℕ
+kept true ty w = w
+kept false ty w = low (type_bits ty) w
+
+-- the parameter of this number; none has a number below 0
+abbrev pub parameter_word : Inputs → ℤ → ℕ
+parameter_word inputs (pos i) = argument inputs i
+parameter_word inputs (negsuc i) = 0
+
+-- a value of this role, and then the rest of the run
+abbrev pub run_role : Form → Inputs → Value → Role → State → (State → Shown) → Shown
+run_role form inputs v Computes s go = go (with_word s v.id.0 (computed v s.words))
+run_role form inputs v TakesParameter s go = go (with_word s v.id.0 (kept form.whole v.ty (parameter_word inputs v.aux)))
+run_role form inputs v Rests s go = go s
+
+-- values in order, and then the rest of the run
+abbrev pub run_values : Form → Inputs → List Value → State → (State → Shown) → Shown
+run_values form inputs [] s go = go s
+run_values form inputs (v ∷ values) s go = run_role form inputs v (role v.op) s (λ t. run_values form inputs values t go)
+
+-- the value of a number
+abbrev pub value_named : List Value → ValueId → Option Value
+value_named values id = find (λ v. v.id.0 == id.0) values
+
+-- the value whose word a value takes where its block is entered by edge k; no op of these functions is a phi
+abbrev pub source_by_op : ℕ → ValueId → List ValueId → Op → ValueId
+source_by_op k id args _ = id
+
+abbrev pub source_of : ℕ → ℕ → Option Value → ℕ
+source_of k n None = n
+source_of k n (Some v) = (source_by_op k v.id v.args v.op).0
+
+-- entering a block: all its phis at once take their words from the words before
+abbrev pub entered : List Value → Option ℕ → (ℕ → ℕ) → ℕ → ℕ
+entered values None words n = words n
+entered values (Some k) words n = words (source_of k n (value_named values (record { 0 = n })))
+
+-- the words of the values that a MakeResult names before its memory
+abbrev pub result_words : (ℕ → ℕ) → Option Value → List ℕ
+result_words words None = []
+result_words words (Some v) = map (λ id. words id.0) (take (length v.args - 1) v.args)
+
+abbrev pub controlling : List Value → Option ValueId → Option Value
+controlling values None = None
+controlling values (Some id) = value_named values id
+
+abbrev pub control_word : (ℕ → ℕ) → Option ValueId → ℕ
+control_word words None = 0
+control_word words (Some id) = words id.0
+
+abbrev pub arrives : (Block → Option ℕ → State → Shown) → Block → ℕ → State → Option Block → Shown
+arrives go b j s None = ends Stuck
+arrives go b j s (Some t) = go t (Some (edge_number b t j)) s
+
+abbrev pub goes_to : Func → (Block → Option ℕ → State → Shown) → Block → ℕ → State → Option BlockId → Shown
+goes_to f go b j s None = ends Stuck
+goes_to f go b j s (Some id) = arrives go b j s (block_named f.blocks id)
+
+-- the run goes along the edge to successor j
+abbrev pub leaves : Func → (Block → Option ℕ → State → Shown) → Block → ℕ → State → Shown
+leaves f go b j s = goes_to f go b j s (slice_get b.succs j)
+
+-- bit 0 of a word
+abbrev pub is_set : ℕ → Bool
+is_set w = low 1 w == 1
+
+-- how a block of this kind ends, and then the rest of the run; no op of these functions makes flags
+abbrev pub run_control : Form → Func → (Block → Option ℕ → State → Shown) → Block → Kind → State → Shown
+run_control form f go b Plain s = leaves f go b 0 s
+run_control form f go b If s = leaves f go b (if is_set (control_word s.words b.control) then 0 else 1) s
+run_control form f go b Ret s =
+    ends (Returned (words_at f.sig.results (result_words s.words (controlling (form.values b) b.control))) (changed s.since s.memory))
+run_control form f go b Exit s = ends (Exited (changed s.since s.memory))
+run_control form f go b (Cond c) s = ends Stuck
+run_control form f go b Bit s = leaves f go b (if is_set (control_word s.words b.control) then 0 else 1) s
+
+-- one block, entered by an edge or from outside, and then the rest of the run
+abbrev pub run_block : Form → Inputs → Func → (Block → Option ℕ → State → Shown) → Block → Option ℕ → State → Shown
+run_block form inputs f go b edge s =
+    run_values form inputs (form.order b) (record s { words = entered (form.values b) edge s.words }) (run_control form f go b b.kind)
+
+-- through at most k blocks on split edges to a counted block, and then the rest of the run
+abbrev pub to_counted : Form → Inputs → Func → (Block → Option ℕ → State → Shown) → ℕ → Block → Option ℕ → State → Shown
+to_counted form inputs f go zero b edge s = if b.id.split then ends Stuck else go b edge s
+to_counted form inputs f go (suc k) b edge s =
+    if b.id.split then run_block form inputs f (to_counted form inputs f go k) b edge s else go b edge s
+
+-- at most n turns, from a counted block on
+abbrev pub turns : Form → Inputs → Func → (n : ℕ) → Block → Option ℕ → State → Shown
+turns form inputs f zero b edge s = ends Going
+turns form inputs f (suc n) b edge s =
+    run_block form inputs f (to_counted form inputs f (turns form inputs f n) (length f.blocks)) b edge s
+
+-- before the first turn: no value has a word
+abbrev pub begun : Inputs → State
+begun inputs = record { words = λ n. 0; memory = inputs.memory; since = inputs.memory; reply = []; answers = inputs.answers }
+
+abbrev pub run_from : Form → Inputs → Func → ℕ → List Block → Shown
+run_from form inputs f n [] = ends Stuck
+run_from form inputs f n (b ∷ blocks) = turns form inputs f n b None (begun inputs)
+
+-- what the run of a function shows, with a bound of n turns
+abbrev pub run : Form → Inputs → Func → ℕ → Shown
+run form inputs f n = run_from form inputs f n f.blocks

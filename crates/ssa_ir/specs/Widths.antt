@@ -1,0 +1,36 @@
+-- The widths of types, in bits.
+use Rattle.std.specs.Prelude.{ℕ}
+use Rattle.ssa_ir.specs.declared.op.Width.{Width}
+use Rattle.ssa_ir.specs.declared.op.Width.TheVariants.{W8, W16, W32, W64}
+use Rattle.ssa_ir.specs.declared.types.Scalar.{Scalar}
+use Rattle.ssa_ir.specs.declared.types.Scalar.TheVariants.{I8, I16, I32, I64, U8, U16, U32, U64, Uintptr, Bool, Ptr}
+use Rattle.ssa_ir.specs.declared.types.Ty.{Ty}
+use Rattle.ssa_ir.specs.declared.types.Ty.TheVariants.{One, Mem, Tuple, Flags, Void}
+
+abbrev pub bits : Width → ℕ
+bits W8 = 8
+bits W16 = 16
+bits W32 = 32
+bits W64 = 64
+
+-- a bool is a byte, and a pointer a word
+abbrev pub scalar_bits : Scalar → ℕ
+scalar_bits I8 = 8
+scalar_bits I16 = 16
+scalar_bits I32 = 32
+scalar_bits I64 = 64
+scalar_bits U8 = 8
+scalar_bits U16 = 16
+scalar_bits U32 = 32
+scalar_bits U64 = 64
+scalar_bits Uintptr = 64
+scalar_bits Bool = 8
+scalar_bits Ptr = 64
+
+-- the bits of a value of one word; the others have none
+abbrev pub type_bits : Ty → ℕ
+type_bits (One t) = scalar_bits t
+type_bits Mem = 0
+type_bits (Tuple types) = 0
+type_bits Flags = 0
+type_bits Void = 0

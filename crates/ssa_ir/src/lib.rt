@@ -1,0 +1,37 @@
+//! SSA functions as every pass sees them: types, signatures, ops, values and blocks.
+//!
+//! The form is that of Go's `cmd/compile/internal/ssa`: a value has an op, a type, at most one number, symbol
+//! and element type, and the values that it uses; a block has predecessors, values and one control; memory is
+//! a value; the Phi values of a block take their argument by predecessor.
+//!
+//! ```text
+//! v4 = Add64 <int64> v2 v3      op Add of width 64, type int64, arguments v2 and v3
+//! v3 = Arg <int64> [1]          op Arg, number 1
+//! b1:  ...  Ret v5              block 1, kind Ret, control v5
+//! ```
+//!
+//! Known limits: of the ops only those are here that a function of one block that adds needs.
+#![tactic(auto)]
+
+pub mod abi;
+pub mod args;
+pub mod case;
+pub mod func;
+pub mod laws;
+pub mod op;
+pub mod texts;
+pub mod types;
+
+pub use abi::AbiPlace;
+pub use args::Args;
+pub use case::{
+    CallShown, CallsShown, Case, Cases, Changed, End, Junk, Piece, Pieces, Replies, Reply, Shown,
+    SymWords, Words,
+};
+pub use func::{Block, BlockIds, Blocks, Func, Funcs, Kind, SsaUnit, Value, Values};
+pub use op::{CondCode, Op, Width};
+pub use texts::print_sigs;
+pub use types::{Scalar, Scalars, Sig, Sigs, Ty};
+
+#[cfg(test)]
+mod tests;
