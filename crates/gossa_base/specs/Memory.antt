@@ -8,9 +8,9 @@ use Rattle.gossa_base.specs.Words.{low}
 abbrev pub Memory : Type 0
 Memory = FinMap nat_cmp ℕ
 
--- the byte at an address; one that was never written is 0
+-- the byte at an address, modulo 2 to the 8; one that was never written is 0
 abbrev pub byte_at : Memory → ℕ → ℕ
-byte_at m a = unwrap_or (map.get m a) 0
+byte_at m a = low 8 (unwrap_or (map.get m a) 0)
 
 -- bytes written from an address upward, modulo 2 to the 64
 abbrev pub write_bytes : Memory → ℕ → List ℕ → Memory
