@@ -1,6 +1,8 @@
--- Texts of lists, ids and names.
-use Rattle.std.specs.Prelude.{ℕ, List, ◌++◌, codes, decimal, if◌then◌else◌}
+-- Texts of lists, ids, names, words and bytes.
+use Rattle.std.specs.Prelude.{ℕ, false, List, ◌++◌, codes, decimal, if◌then◌else◌}
+use Rattle.std.specs.Fmt.{digits}
 use Rattle.std.specs.List.{flat_map}
+use Rattle.hex.specs.Hex.{encode_lower}
 use Rattle.gossa_base.specs.declared.ids.ValueId.{ValueId}
 use Rattle.gossa_base.specs.declared.ids.BlockId.{BlockId}
 
@@ -15,3 +17,11 @@ value_text v = codes "v" ++ decimal v.0
 -- a block's name, as b7, or e7 where it stands on a split edge
 abbrev pub block_text : BlockId → List ℕ
 block_text b = (if b.split then codes "e" else codes "b") ++ decimal b.n
+
+-- a word, as 0x1f: lower-case digits without leading zeros
+abbrev pub hex_text : ℕ → List ℕ
+hex_text w = codes "0x" ++ digits 16 false w
+
+-- bytes, two lower-case digits for each
+abbrev pub hex_bytes_text : List ℕ → List ℕ
+hex_bytes_text bytes = encode_lower bytes

@@ -4,7 +4,8 @@
 //! Method. A [`Source`] gives bytes in pieces and a [`Sink`] takes them; each may tell which bytes are left
 //! or held, and counts its faults. [`read_all`] and [`write_all`] turn pieces into whole texts. The program
 //! runs over [`StdSource`] and [`StdSink`], the tests over [`MemSource`] and [`MemSink`], whose failing
-//! calls are known beforehand. A refusal that blames an object comes only where its count of faults rose.
+//! calls are known beforehand. A refusal that blames an object comes only where its count of faults rose, or
+//! stands at the last number of its type.
 //!
 //! ```text
 //! "ab" "c" end   --read_all-->    Ok("abc")
@@ -34,7 +35,9 @@ pub use mem_source::MemSource;
 pub use memory::NoMemory;
 pub use name::Name;
 pub use outside::{Failed, Sink, Source};
-pub use print::{Print, print_all, print_joined, print_led, put, put_number, put_signed};
+pub use print::{
+    Print, print_all, print_joined, print_led, put, put_hex, put_hex_bytes, put_number, put_signed,
+};
 pub use sequence::{Bytes, Sequence};
 pub use std_streams::{StdSink, StdSource};
 pub use whole::{ReadRefusal, read_all, write_all};

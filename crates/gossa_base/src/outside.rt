@@ -5,7 +5,7 @@ ghost use Rattle.std.specs.Io.{ReadsAtMost};
 ghost use Rattle.std.specs.Io.KnownBytes.{ReadConsumes, WriteAppends};
 ghost use Rattle.gossa_base.specs.Faults.{Faulted};
 
-/// A read or a write did not come about. The object's count of faults rose.
+/// A read or a write did not come about. The object's count of faults rose, or stands at its last number.
 #[derive(Clone, Copy, Debug, PartialEq, Eq)]
 pub struct Failed;
 
@@ -16,8 +16,9 @@ pub trait Source {
     // How many faults it has met so far. It stays at the last number of its type.
     ghost faults: { Self → ℕ };
 
-    /// Moves some of the bytes left to the front of `buf` and answers how many: none only at the end of input.
-    /// `Failed` comes only where the count of faults rose, and then no byte was taken.
+    /// Moves some of the bytes left to the front of `buf`, which isn't empty, and answers how many: none only at the end
+    /// of input.
+    /// `Failed` comes only where the count of faults rose, or stands at its last number, and then no byte was taken.
     fn read(&mut self, buf: &mut [u8]) -> Result<usize, Failed>
         requires { 0 < length buf.old }
         ensures bound { ReadsAtMost result buf.new }
@@ -33,8 +34,9 @@ pub trait Sink {
     // How many faults it has met so far. It stays at the last number of its type.
     ghost faults: { Self → ℕ };
 
-    /// Appends the first bytes of `piece` and answers how many, at least one.
-    /// `Failed` comes only where the count of faults rose, and then nothing was appended.
+    /// Appends the first bytes of `piece`, which isn't empty, and answers how many, at least one.
+    /// `Failed` comes only where the count of faults rose, or stands at its last number, and then nothing was
+    /// appended.
     fn write(&mut self, piece: &[u8]) -> Result<usize, Failed>
         requires { 0 < length piece.now }
         ensures some { IfOk result (λ n. 0 < n) }

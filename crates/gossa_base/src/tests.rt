@@ -2,7 +2,7 @@
 
 use crate::{
     BlockId, Bytes, Failed, MemSink, MemSource, Name, NoMemory, ReadRefusal, Sequence, Sink,
-    Source, StdSink, StdSource, ValueId, read_all, write_all,
+    Source, StdSink, StdSource, ValueId, put_hex, put_hex_bytes, read_all, write_all,
 };
 use std::alloc::AllocError;
 use std::test::Fail;
@@ -143,6 +143,23 @@ fn sequences_grow_at_the_end(rt: HostRuntime) -> Result<(), Fail> {
     let copies = names.clone()?;
     assert_eq!(rt; copies.len(), 1);
     assert_eq!(rt; copies.as_slice()[0].as_slice(), b"f".as_slice());
+    Ok(())
+}
+
+#[test]
+fn words_and_bytes_are_hexadecimal(rt: HostRuntime) -> Result<(), Fail> {
+    for (word, want) in [
+        (0, "0x0"),
+        (0x7fab, "0x7fab"),
+        (u64::MAX, "0xffffffffffffffff"),
+    ] {
+        let mut text = Vec::new(rt.alloc());
+        put_hex(&mut text, word)?;
+        assert_eq!(rt; text.as_slice(), want.as_bytes(), "for {want}");
+    }
+    let mut text = Vec::new(rt.alloc());
+    put_hex_bytes(&mut text, &[0, 0x0a, 0xff])?;
+    assert_eq!(rt; text.as_slice(), b"000aff".as_slice());
     Ok(())
 }
 

@@ -7,7 +7,7 @@ use Rattle.std.proofs.lemmas.List.Folds.{list_all-append}
 use Rattle.gossa_base.specs.declared.ids.BlockId.{BlockId}
 use Rattle.gossa_base.specs.declared.ids.ValueId.{ValueId}
 use Rattle.ssa_ir.specs.declared.op.Op.{Op}
-use Rattle.ssa_ir.specs.declared.op.Op.TheVariants.{InitMem, Arg, Const, Add, MakeResult, Arm64Add}
+use Rattle.ssa_ir.specs.declared.op.Op.TheVariants.{Arg, Const, Add}
 use Rattle.ssa_ir.specs.declared.types.Scalar.{Scalar}
 use Rattle.ssa_ir.specs.declared.types.Scalar.TheVariants.{I64}
 use Rattle.ssa_ir.specs.declared.func.Block.{Block}
@@ -78,12 +78,10 @@ is_own (Constant c) = true
 is_own _ = false
 
 own_by_op : (word : ℕ) (id : ValueId) (aux : ℤ) (op : Op) → IsTrue (is_own (place_by_op word id aux op))
-own_by_op word id aux InitMem = refl
 own_by_op word id aux Arg = refl
 own_by_op word id aux (Const w) = refl
 own_by_op word id aux (Add w) = refl
-own_by_op word id aux MakeResult = refl
-own_by_op word id aux Arm64Add = refl
+own_by_op word id aux _ = refl
 
 own_by_value : (values : List Value) (id : ValueId) (o : Option Value) → IsTrue (is_own (place_of_value values id o))
 own_by_value values id None = refl

@@ -20,7 +20,7 @@ use Rattle.gossa_core.proofs.PlainRun.{plain_shows}
 
 -- the text of a unit of one function is that of the function
 pub unit_is_func : (f : Func) → unit_text (unit_of f) ≡ func_text f
-unit_is_func f = append-nil (func_text f)
+unit_is_func f = append-nil (func_text f ++ []) ∙ append-nil (func_text f)
 
 shows_at : (f : Func) (regs : ℕ) → Narrow f → 16 ≤ regs → (i : ℕ) (g : Func) (l : Listing)
     → slice_get (f ∷ []) i ≡ Some g → slice_get (plain_listing regs f ∷ []) i ≡ Some l → ShowsAs (callees_of (unit_of f)) g l

@@ -91,8 +91,8 @@ sum_frame inputs code at id a b h m e hb = sum_by_test inputs code at id a b h m
 
 straight_by_test : (at : ValueId → Place) (id a b : ValueId) (t : Bool)
     → AllStraight (cond t (load_line at 0 a ∷ sum_lines at id 0) (load_line at 0 a ∷ load_line at 1 b ∷ sum_lines at id 1))
-straight_by_test at id a b true = (tt, (tt, (tt, tt)))
-straight_by_test at id a b false = (tt, (tt, (tt, (tt, tt))))
+straight_by_test at id a b true = (tt, (refl, (tt, tt)))
+straight_by_test at id a b false = (tt, (tt, (refl, (tt, tt))))
 
 pub sum_straight : (at : ValueId → Place) (id a b : ValueId) → AllStraight (add_lines at id (a ∷ b ∷ []))
 sum_straight at id a b = straight_by_test at id a b (eqb a.0 b.0)

@@ -1,5 +1,5 @@
 -- What the run of a narrow function shows.
-use Rattle.std.proofs.Common.{◌≡◌, ℕ, zero, suc, ◌+◌, ◌<◌, Bool, true, false, not, ◌&&◌, ◌||◌, cond, eqb, List, [], ◌∷◌, ◌++◌, length, slice_get, Some, refl, sym, ap, ◌∙◌, subst, arith}
+use Rattle.std.proofs.Common.{◌≡◌, ℕ, zero, suc, ◌+◌, ◌<◌, Bool, true, false, not, ◌&&◌, ◌||◌, cond, eqb, List, [], ◌∷◌, ◌++◌, length, slice_get, Option, None, Some, refl, sym, ap, ◌∙◌, subst, arith}
 use Rattle.std.proofs.Math.Bool.{or-true}
 use Rattle.std.specs.List.{filter, list_all}
 use Rattle.std.proofs.lemmas.Bool.{eqb-false}
@@ -7,83 +7,66 @@ use Rattle.std.proofs.lemmas.List.Folds.{list_any-append}
 use Rattle.gossa_base.specs.Memory.{changed}
 use Rattle.gossa_base.specs.Words.{low, word_of}
 use Rattle.gossa_base.specs.declared.ids.ValueId.{ValueId}
-use Rattle.ssa_ir.specs.declared.op.Op.{Op}
-use Rattle.ssa_ir.specs.declared.op.Op.TheVariants.{InitMem, Arg, Const, Add, MakeResult, Arm64Add}
 use Rattle.ssa_ir.specs.declared.types.Scalar.TheVariants.{I64}
 use Rattle.ssa_ir.specs.declared.func.Value.{Value}
 use Rattle.ssa_ir.specs.declared.func.Block.{Block}
 use Rattle.ssa_ir.specs.declared.func.Func.{Func}
 use Rattle.ssa_ir.specs.declared.case.End.TheVariants.{Returned, Going}
 use Rattle.ssa_ir.specs.declared.case.Shown.{Shown}
-use Rattle.ssa_ir.specs.FirstOrder.{is_phi, changes_memory, same_value, has_value, is_placed, readers_before, is_ready, ready_or_later, split_ready, next_then, placed_next, first_order}
+use Rattle.ssa_ir.specs.FirstOrder.{is_phi, is_follower, reads_memory, memory_taken, same_memory, same_value, has_value, is_placed, readers_before, is_ready, ready_or_later, split_ready, item, next_then, placed_next, first_order}
 use Rattle.ssa_ir.specs.Inputs.{Inputs, argument}
 use Rattle.ssa_ir.specs.Run.{Callees, State, put, with_word, generic, value_named, result_words, run_values, begun, run}
 use Rattle.ssa_ir.specs.Showing.{ends, words_at}
-use Rattle.gossa_core.specs.Narrow.{Step, TakeArg, MakeConst, AddTwo, vid, step_value, init_value, values_from, block_of, func_of, IsAbove, StepFits, StepsFit, Narrow}
+use Rattle.gossa_core.specs.Narrow.{Step, TakeArg, MakeConst, AddTwo, vid, step_value, init_value, result_value, values_from, block_of, func_of, IsAbove, StepFits, StepsFit, Narrow}
 use Rattle.gossa_core.proofs.NarrowLemmas.{step_number, result_named}
 use Rattle.gossa_core.proofs.NumberedLemmas.{same_number, other_number}
 
--- no op is a phi
-not_phi : (o : Op) → is_phi o ≡ false
-not_phi InitMem = refl
-not_phi Arg = refl
-not_phi (Const w) = refl
-not_phi (Add w) = refl
-not_phi MakeResult = refl
-not_phi Arm64Add = refl
+-- a value that may come next, at its place in text order and alone
+pub record ComesNext (block placed : List Value) (v : Value) : Type 0 where
+  pub ready : is_ready block placed v ≡ true
+  pub no_phi : is_phi v.op ≡ false
+  pub no_follower : is_follower v.op ≡ false
+  pub alone : item block v ≡ v ∷ []
 
--- no op changes memory
-keeps_memory : (o : Op) → changes_memory o ≡ false
-keeps_memory InitMem = refl
-keeps_memory Arg = refl
-keeps_memory (Const w) = refl
-keeps_memory (Add w) = refl
-keeps_memory MakeResult = refl
-keeps_memory Arm64Add = refl
-
--- so no value goes to the front
-no_phis : (values : List Value) → filter (λ v. is_phi v.op) values ≡ []
-no_phis [] = refl
-no_phis (v ∷ values) =
-    let rest = filter (λ (u : Value). is_phi u.op) values in
-    ap (λ b. cond b (v ∷ rest) rest) (not_phi v.op) ∙ no_phis values
-
--- and all values are placed one by one
-all_others : (values : List Value) → filter (λ v. not (is_phi v.op)) values ≡ values
-all_others [] = refl
-all_others (v ∷ values) =
-    let rest = filter (λ (u : Value). not (is_phi u.op)) values in
-    ap (λ b. cond (not b) (v ∷ rest) rest) (not_phi v.op) ∙ ap (λ l. v ∷ l) (all_others values)
-
--- each value's arguments stand before it
+-- each value may come next where it stands
 abbrev InOrder : (block placed rest : List Value) → Type 0
 InOrder block placed [] = Unit {0}
-InOrder block placed (v ∷ rest) =
-    (list_all (is_placed block placed) v.args ≡ true) × InOrder block (placed ++ v ∷ []) rest
+InOrder block placed (v ∷ rest) = ComesNext block placed v × InOrder block (placed ++ v ∷ []) rest
 
--- a value whose arguments are placed may come next
-ready : (block placed : List Value) (v : Value) → list_all (is_placed block placed) v.args ≡ true
-    → is_ready block placed v ≡ true
-ready block placed v h =
-    let readers : Bool = list_all (λ r. has_value placed r.id) (readers_before block v) in
-    ap (λ b. list_all (is_placed block placed) v.args && (not b || readers)) (keeps_memory v.op)
-    ∙ ap (λ b. b && true) h
+-- so no value goes to the front
+no_phis : (block placed values : List Value) → InOrder block placed values → filter (λ v. is_phi v.op) values ≡ []
+no_phis block placed [] h = refl
+no_phis block placed (v ∷ values) h =
+    let rest = filter (λ (u : Value). is_phi u.op) values in
+    ap (λ b. cond b (v ∷ rest) rest) h.0.no_phi ∙ no_phis block (placed ++ v ∷ []) values h.1
+
+-- and all values are placed one by one
+all_others : (block placed values : List Value) → InOrder block placed values
+    → filter (λ v. not (is_follower v.op) && not (is_phi v.op)) values ≡ values
+all_others block placed [] h = refl
+all_others block placed (v ∷ values) h =
+    let rest = filter (λ (u : Value). not (is_follower u.op) && not (is_phi u.op)) values in
+    ap (λ b. cond (not b && not (is_phi v.op)) (v ∷ rest) rest) h.0.no_follower
+    ∙ ap (λ b. cond (not b) (v ∷ rest) rest) h.0.no_phi
+    ∙ ap (λ l. v ∷ l) (all_others block (placed ++ v ∷ []) values h.1)
 
 -- values in order are placed in that order
 placed_in_order : (block placed rest : List Value) → InOrder block placed rest
     → placed_next (length rest) block placed rest ≡ rest
 placed_in_order block placed [] h = refl
 placed_in_order block placed (v ∷ rest) h =
-    let go : Value → List Value → List Value = λ u others. placed_next (length rest) block (placed ++ u ∷ []) others in
-    ap (λ b. next_then block go (ready_or_later v rest b (split_ready block placed rest))) (ready block placed v h.0)
+    let go : Value → List Value → List Value =
+    λ u others. placed_next (length rest) block (placed ++ item block u) others in
+    ap (λ b. next_then block go (ready_or_later v rest b (split_ready block placed rest))) h.0.ready
+    ∙ ap (λ l. l ++ placed_next (length rest) block (placed ++ l) rest) h.0.alone
     ∙ ap (λ l. v ∷ l) (placed_in_order block (placed ++ v ∷ []) rest h.1)
 
 -- the first order of values in order is that order
 kept_in_order : (values : List Value) → InOrder values [] values → first_order values ≡ values
 kept_in_order values h =
-    let rest = filter (λ (v : Value). not (is_phi v.op)) values in
-    ap (λ phis. phis ++ placed_next (length rest) values phis rest) (no_phis values)
-    ∙ ap (λ others. placed_next (length others) values [] others) (all_others values)
+    let rest = filter (λ (v : Value). not (is_follower v.op) && not (is_phi v.op)) values in
+    ap (λ phis. phis ++ placed_next (length rest) values phis rest) (no_phis values [] values h)
+    ∙ ap (λ others. placed_next (length others) values [] others) (all_others values [] values h)
     ∙ placed_in_order values [] values h
 
 -- the values placed have all numbers from 1 on below n
@@ -115,25 +98,61 @@ placed_two block placed n a b h la lta lb ltb =
     ap (λ x. x && (is_placed block placed (vid b) && true)) (placed_arg block placed n a h la lta)
     ∙ ap (λ x. x && true) (placed_arg block placed n b h lb ltb)
 
--- the arguments of a step that fits are placed
-step_placed : (block placed : List Value) (params n : ℕ) (s : Step) → StepFits params n s → HasBelow placed n
-    → list_all (is_placed block placed) (step_value n s).args ≡ true
-step_placed block placed params n (TakeArg i) fits h = refl
-step_placed block placed params n (MakeConst c) fits h = refl
-step_placed block placed params n (AddTwo a b) fits h =
-    placed_two block placed n a b h (omega arith) fits.0.above (omega arith) fits.1.above
+-- the value of a step that fits comes next
+step_next : (block placed : List Value) (params n : ℕ) (s : Step) → StepFits params n s → HasBelow placed n
+    → ComesNext block placed (step_value n s)
+step_next block placed params n (TakeArg i) fits h =
+    record { ready = refl; no_phi = refl; no_follower = refl; alone = refl }
+step_next block placed params n (MakeConst c) fits h =
+    record { ready = refl; no_phi = refl; no_follower = refl; alone = refl }
+step_next block placed params n (AddTwo a b) fits h = record {
+  ready = ap (λ x. x && true) (placed_two block placed n a b h (omega arith) fits.0.above (omega arith) fits.1.above);
+  no_phi = refl;
+  no_follower = refl;
+  alone = refl;
+}
+
+-- the last value comes next where its result is placed
+result_next : (block placed : List Value) (n r : ℕ) → 1 < n → 0 < r → r < n → HasBelow placed n
+    → ComesNext block placed (result_value n r)
+result_next block placed n r two positive lt h = record {
+  ready = ap (λ x. x && true) (placed_two block placed n r 1 h positive lt (omega arith) two);
+  no_phi = refl;
+  no_follower = refl;
+  alone = refl;
+}
+
+-- where no value passes a test, none is kept
+none_kept : (test : Value → Bool) → ((v : Value) → test v ≡ false) → (values : List Value) → filter test values ≡ []
+none_kept test fails [] = refl
+none_kept test fails (v ∷ values) =
+    ap (λ b. cond b (v ∷ filter test values) (filter test values)) (fails v) ∙ none_kept test fails values
+
+-- no value takes the memory of one that takes none
+takes_other : (reads : Bool) (memory : Option ValueId) → (reads && same_memory memory None) ≡ false
+takes_other false memory = refl
+takes_other true None = refl
+takes_other true (Some a) = refl
+
+-- the first value makes a memory, and takes none
+init_next : (block : List Value) → ComesNext block [] init_value
+init_next block =
+    let readers : readers_before block init_value ≡ [] =
+    none_kept (λ r. reads_memory r.op && same_memory (memory_taken r.op r.args) None)
+    (λ r. takes_other (reads_memory r.op) (memory_taken r.op r.args)) block in
+    record { ready = ap (list_all (λ r. has_value [] r.id)) readers; no_phi = refl; no_follower = refl; alone = refl }
 
 -- the values of steps that fit are in order
 steps_in_order : (block placed : List Value) (params n : ℕ) (steps : List Step) (r : ℕ) → 1 < n
     → StepsFit params n steps → 0 < r → r < n + length steps → HasBelow placed n
     → InOrder block placed (values_from n steps r)
 steps_in_order block placed params n [] r two fit positive lt h =
-    (placed_two block placed n r 1 h positive (omega arith) (omega arith) two, tt)
+    (result_next block placed n r two positive (omega arith) h, tt)
 steps_in_order block placed params n (s ∷ steps) r two fit positive lt h =
     let v : Value = step_value n s in
     let more : HasBelow (placed ++ v ∷ []) (suc n) = one_more placed n v (step_number n s) h in
     let inside : r < suc n + length steps = omega arith in (
-      step_placed block placed params n s fit.0 h,
+      step_next block placed params n s fit.0 h,
       steps_in_order block (placed ++ v ∷ []) params (suc n) steps r (omega arith) fit.1 positive inside more,
     )
 
@@ -145,7 +164,7 @@ narrow_order params steps r fit above =
     let first : HasBelow (init_value ∷ []) 2 = one_more [] 1 init_value refl (λ k positive lt. absurd (omega arith)) in
     let inside : r < 2 + length steps = omega arith in
     let later = steps_in_order block (init_value ∷ []) params 2 steps r (omega arith) fit (omega arith) inside first in
-    kept_in_order block (refl, later)
+    kept_in_order block (init_next block, later)
 
 -- the word of a step, by the words before it
 abbrev pub step_word : Inputs → (ℕ → ℕ) → Step → ℕ

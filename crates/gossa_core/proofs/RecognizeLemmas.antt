@@ -6,7 +6,7 @@ use Rattle.ssa_ir.specs.declared.func.Block.{Block}
 use Rattle.ssa_ir.specs.declared.func.Func.{Func}
 use Rattle.ssa_ir.specs.Texts.{sig_text, newline}
 use Rattle.ssa_text.specs.Text.{func_text, block_lines}
-use Rattle.gossa_core.specs.Names.{IsName}
+use Rattle.ssa_ir.specs.Names.{IsName}
 use Rattle.gossa_core.specs.Narrow.{Narrow, Step, func_of}
 use Rattle.gossa_core.specs.NarrowParts.{IsBody, block_of, head_line}
 use Rattle.gossa_core.specs.Narrow.{narrow_sig}

@@ -5,7 +5,7 @@ use Rattle.std.proofs.lemmas.Bool.{false≢true}
 use Rattle.std.proofs.lemmas.List.{append_cancel_left}
 use Rattle.ssa_ir.specs.declared.types.Scalar.TheVariants.{I64}
 use Rattle.ssa_ir.specs.Texts.{scalar_name}
-use Rattle.gossa_core.specs.Names.{is_name_start, is_name_byte, IsName}
+use Rattle.ssa_ir.specs.Names.{is_name_start, is_name_byte, IsName}
 use Rattle.gossa_core.specs.NarrowParts.{params_text, head_line}
 use Rattle.gossa_core.proofs.OnceLemmas.{and_both}
 use Rattle.gossa_core.proofs.StepLemmas.{differ}

@@ -5,9 +5,10 @@ use Rattle.std.specs.Int.{w64}
 use Rattle.std.specs.Prelude.{FitsSigned}
 use Rattle.std.proofs.lemmas.List.{append-nil, append_cancel_left}
 use Rattle.gossa_base.specs.Texts.{led, value_text}
-use Rattle.ssa_ir.specs.Texts.{newline, op_name}
+use Rattle.ssa_ir.specs.OpNames.{op_name}
+use Rattle.ssa_ir.specs.Texts.{newline}
 use Rattle.ssa_ir.specs.declared.func.Value.{Value}
-use Rattle.ssa_text.specs.Text.{value_line, type_text, number_text}
+use Rattle.ssa_text.specs.Text.{value_line, type_text, aux_text}
 use Rattle.gossa_core.specs.Narrow.{Step, TakeArg, MakeConst, AddTwo, StepFits, IsAbove, step_value, result_value, vid}
 use Rattle.gossa_core.specs.NarrowParts.{arg_line, const_line, sum_line}
 use Rattle.gossa_core.proofs.TextLemmas.{number_alike, signed_alike, value_alike}
@@ -25,12 +26,16 @@ seven_then a b c d e f g rest = simp append_assoc
 pub two_then : (a between b rest : List ℕ) → (a ++ (between ++ (b ++ []))) ++ rest ≡ a ++ (between ++ (b ++ rest))
 two_then a between b rest = simp (append_assoc, append-nil)
 
+-- a number in brackets, and then the rest of a text
+number_then : (number close rest : List ℕ) → ((number ++ close) ++ []) ++ rest ≡ number ++ (close ++ rest)
+number_then number close rest = simp (append_assoc, append-nil)
+
 -- the line of a value, and then the rest of a text
 pub line_then : (v : Value) (rest : List ℕ) → value_line v ++ rest ≡
-    value_text v.id ++ (codes " = " ++ (op_name v.op ++ (type_text v.ty ++ (number_text v.op v.aux ++
+    value_text v.id ++ (codes " = " ++ (op_name v.op ++ (type_text v.ty ++ (aux_text v ++
     (led (codes " ") value_text v.args ++ (newline ++ rest))))))
 line_then v rest =
-    seven_then (value_text v.id) (codes " = ") (op_name v.op) (type_text v.ty) (number_text v.op v.aux)
+    seven_then (value_text v.id) (codes " = ") (op_name v.op) (type_text v.ty) (aux_text v)
     (led (codes " ") value_text v.args) newline rest
 
 -- the line of a step, joined the other way
@@ -39,11 +44,11 @@ pub step_line : (n : ℕ) (s : Step) (rest : List ℕ) →
 step_line n (TakeArg i) rest =
     line_then (step_value n (TakeArg i)) rest
     ∙ ap (λ t. value_text (vid n) ++ (codes " = Arg <int64> [" ++ t))
-    (append_assoc (decimal i) (codes "]") (codes "\n" ++ rest))
+    (number_then (decimal i) (codes "]") (codes "\n" ++ rest))
 step_line n (MakeConst c) rest =
     line_then (step_value n (MakeConst c)) rest
     ∙ ap (λ t. value_text (vid n) ++ (codes " = Const64 <int64> [" ++ t))
-    (append_assoc (signed_decimal c) (codes "]") (codes "\n" ++ rest))
+    (number_then (signed_decimal c) (codes "]") (codes "\n" ++ rest))
 step_line n (AddTwo a b) rest =
     line_then (step_value n (AddTwo a b)) rest
     ∙ ap (λ t. value_text (vid n) ++ (codes " = Add64 <int64> v" ++ t))

@@ -1,29 +1,27 @@
 -- Stretches of lines that only move and compute.
-use Rattle.std.proofs.Common.{◌≡◌, ℕ, ℤ, zero, suc, ◌+◌, List, [], ◌∷◌, ◌++◌, length, drop, Option, None, Some, slice_get, refl, ap, ◌∙◌, arith}
-use Rattle.ssa_ir.specs.declared.op.Op.{Op}
-use Rattle.ssa_ir.specs.Evaluation.{Role, Computes, TakesParameter, Rests, role}
+use Rattle.std.proofs.Common.{◌≡◌, ℕ, zero, suc, ◌+◌, List, [], ◌∷◌, ◌++◌, length, drop, Option, None, Some, slice_get, refl, ap, ◌∙◌, arith}
+use Rattle.ssa_ir.specs.Evaluation.{Computes, role}
 use Rattle.ssa_ir.specs.Inputs.{Inputs}
 use Rattle.ssa_ir.specs.Run.{Callees}
 use Rattle.listing.specs.declared.line.Line.{Line}
 use Rattle.listing.specs.declared.line.Line.TheVariants.{Label, Op as Compute, Move, Nil, Branch, BitBranch, Jump, Call, Ret, Exit}
-use Rattle.listing.specs.declared.line.Operands.{Operands}
 use Rattle.listing.specs.declared.line.Place.{Place}
 use Rattle.listing.specs.declared.line.Place.TheVariants.{Reg, Out, Arg, Frame, Home, Const, Addr}
 use Rattle.listing.specs.declared.code.Code.{Code}
 use Rattle.listing.specs.declared.code.Map.{Map}
-use Rattle.listing.specs.Machine.{Machine, Onward, run_line, word_at, with_place, with_result, computes}
+use Rattle.listing.specs.Machine.{Machine, Onward, run_line, word_at, with_place, with_result, with_computed, run_computing}
 use Rattle.listing.specs.ListingRun.{follow, line_at}
 
 -- what a line does that only moves or computes
 abbrev pub straight_effect : Inputs → Code → Line → Machine → Machine
 straight_effect inputs code (Move to from note) m = with_place to (word_at inputs code from m) m
-straight_effect inputs code (Compute op aux o note) m = computes (role op) op aux o m
+straight_effect inputs code (Compute op aux o note) m = with_computed op aux o m
 straight_effect inputs code _ m = m
 
--- a line that only moves or computes
+-- a line that only moves, or whose op computes a word
 abbrev pub IsStraight : Line → Type 0
 IsStraight (Move to from note) = Unit {0}
-IsStraight (Compute op aux o note) = Unit {0}
+IsStraight (Compute op aux o note) = role op ≡ Computes
 IsStraight _ = ⊥
 
 abbrev pub AllStraight : List Line → Type 0
@@ -60,7 +58,8 @@ drop_tail (x ∷ xs) (suc i) y ys e = drop_tail xs i y ys e
 straight_step : (callees : Callees) (inputs : Inputs) (code : Code) (maps : Option (List Map)) (turn go : Onward) (line : Line) (i : ℕ) (m : Machine) → IsStraight line
     → run_line callees inputs code maps turn go line i m ≡ go (suc i) (straight_effect inputs code line m)
 straight_step callees inputs code maps turn go (Label b held) i m h = absurd h
-straight_step callees inputs code maps turn go (Compute op aux o note) i m h = refl
+straight_step callees inputs code maps turn go (Compute op aux o note) i m h =
+    ap (λ r. run_computing r op aux o (go (suc i)) m) h
 straight_step callees inputs code maps turn go (Move to from note) i m h = refl
 straight_step callees inputs code maps turn go (Nil r note) i m h = absurd h
 straight_step callees inputs code maps turn go (Branch c b) i m h = absurd h
@@ -111,19 +110,9 @@ result_since : (m : Machine) (dst : Option ℕ) (w : ℕ) → (with_result m dst
 result_since m None w = refl
 result_since m (Some r) w = refl
 
-computed_memory : (r : Role) (op : Op) (aux : ℤ) (o : Operands) (m : Machine) → (computes r op aux o m).memory ≡ m.memory
-computed_memory Computes op aux o m = result_memory m o.dst _
-computed_memory TakesParameter op aux o m = refl
-computed_memory Rests op aux o m = refl
-
-computed_since : (r : Role) (op : Op) (aux : ℤ) (o : Operands) (m : Machine) → (computes r op aux o m).since ≡ m.since
-computed_since Computes op aux o m = result_since m o.dst _
-computed_since TakesParameter op aux o m = refl
-computed_since Rests op aux o m = refl
-
 effect_memory : (inputs : Inputs) (code : Code) (line : Line) (m : Machine) → IsStraight line → (straight_effect inputs code line m).memory ≡ m.memory
 effect_memory inputs code (Move to from note) m h = placed_memory to _ m
-effect_memory inputs code (Compute op aux o note) m h = computed_memory (role op) op aux o m
+effect_memory inputs code (Compute op aux o note) m h = result_memory m o.dst _
 effect_memory inputs code (Label b held) m h = absurd h
 effect_memory inputs code (Nil r note) m h = absurd h
 effect_memory inputs code (Branch c b) m h = absurd h
@@ -135,7 +124,7 @@ effect_memory inputs code Exit m h = absurd h
 
 effect_since : (inputs : Inputs) (code : Code) (line : Line) (m : Machine) → IsStraight line → (straight_effect inputs code line m).since ≡ m.since
 effect_since inputs code (Move to from note) m h = placed_since to _ m
-effect_since inputs code (Compute op aux o note) m h = computed_since (role op) op aux o m
+effect_since inputs code (Compute op aux o note) m h = result_since m o.dst _
 effect_since inputs code (Label b held) m h = absurd h
 effect_since inputs code (Nil r note) m h = absurd h
 effect_since inputs code (Branch c b) m h = absurd h

@@ -9,7 +9,7 @@ use Rattle.std.proofs.lemmas.List.{append_cancel_left, get_or_default}
 use Rattle.std.proofs.lemmas.Fmt.{decimal_is_IsNumeral, decimal_injective, signed_decimal_injective}
 use Rattle.std.proofs.lemmas.Str.Parse.{digit_at}
 use Rattle.gossa_base.specs.Texts.{value_text}
-use Rattle.gossa_core.specs.Names.{is_digit}
+use Rattle.ssa_ir.specs.Names.{is_digit}
 use Rattle.gossa_core.specs.Narrow.{vid}
 use Rattle.gossa_core.proofs.NumberLemmas.{mag_small}
 

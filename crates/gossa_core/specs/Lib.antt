@@ -1,5 +1,4 @@
 pub mod Answer
-pub mod Names
 pub mod Narrow
 pub mod NarrowParts
 pub mod Numbered

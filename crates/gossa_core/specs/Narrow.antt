@@ -14,7 +14,7 @@ use Rattle.ssa_ir.specs.declared.func.Value.{Value}
 use Rattle.ssa_ir.specs.declared.func.Kind.TheVariants.{Ret}
 use Rattle.ssa_ir.specs.declared.func.Block.{Block}
 use Rattle.ssa_ir.specs.declared.func.Func.{Func}
-use Rattle.gossa_core.specs.Names.{IsName}
+use Rattle.ssa_ir.specs.Names.{IsName}
 
 -- what a value between the first and the last makes: a parameter, a constant, or the sum of two values
 pub data Step : Type 0 where

@@ -5,7 +5,7 @@ use Rattle.std.specs.Option.{option_map}
 use Rattle.std.specs.List.{flat_map}
 use Rattle.gossa_base.specs.declared.ids.ValueId.{ValueId}
 use Rattle.ssa_ir.specs.declared.op.Op.{Op}
-use Rattle.ssa_ir.specs.declared.op.Op.TheVariants.{Arg, Const, Add, Arm64Add}
+use Rattle.ssa_ir.specs.declared.op.Op.TheVariants.{Arg, Const, Add, Arm64ADD}
 use Rattle.ssa_ir.specs.declared.types.Scalar.{Scalar}
 use Rattle.ssa_ir.specs.declared.func.Value.{Value}
 use Rattle.ssa_ir.specs.declared.func.Kind.{Kind}
@@ -83,7 +83,7 @@ load_line at r id = Move (Reg r) (at id) (Load id)
 -- the sum of the words in R0 and another register goes to R0, and from there to its home
 abbrev pub sum_lines : (ValueId → Place) → ValueId → ℕ → List Line
 sum_lines at id second =
-    Compute Arm64Add (pos 0) (record { dst = Some 0; a = Some 0; b = Some second }) (Computes id) ∷ spill_line at (0, id) ∷ []
+    Compute Arm64ADD (pos 0) (record { dst = Some 0; a = Some 0; b = Some second }) (Computes id) ∷ spill_line at (0, id) ∷ []
 
 -- a sum: its operands in order, one that is named twice once, and then the sum
 abbrev pub add_lines : (ValueId → Place) → ValueId → List ValueId → List Line

@@ -3,7 +3,7 @@ use Rattle.std.specs.Prelude.{◌≡◌, ℕ, pos, ◌-◌, ◌^◌, codes, fals
 use Rattle.gossa_base.specs.declared.ids.BlockId.{BlockId}
 use Rattle.ssa_ir.specs.declared.case.End.TheVariants.{Returned, Going}
 use Rattle.ssa_ir.specs.declared.op.Width.TheVariants.{W64}
-use Rattle.ssa_ir.specs.declared.op.Op.TheVariants.{InitMem, Arg, Add, MakeResult, Arm64Add}
+use Rattle.ssa_ir.specs.declared.op.Op.TheVariants.{InitMem, Arg, Add, MakeResult, Arm64ADD}
 use Rattle.ssa_ir.specs.declared.types.Scalar.TheVariants.{I64}
 use Rattle.ssa_ir.specs.declared.types.Sig.{Sig}
 use Rattle.ssa_ir.specs.declared.types.Ty.TheVariants.{One, Mem, Tuple}
@@ -68,7 +68,7 @@ lines_to_sum rest =
     ∷ Move (Frame 1) (Reg 1) (Spill (vid 3))
     ∷ Move (Reg 0) (Frame 0) (Load (vid 2))
     ∷ Move (Reg 1) (Frame 1) (Load (vid 3))
-    ∷ Compute Arm64Add (pos 0) (record { dst = Some 0; a = Some 0; b = Some 1 }) (Computes (vid 4))
+    ∷ Compute Arm64ADD (pos 0) (record { dst = Some 0; a = Some 0; b = Some 1 }) (Computes (vid 4))
     ∷ rest
 
 -- the listing of f: v2, v3 and v4 stand in the frame words 0, 1 and 2

@@ -12,7 +12,8 @@
 //! ```
 //!
 //! Known limits: the only command is `compile`, and a unit is one function of one block that adds parameters and
-//! constants of type int64; every other text is refused as not built.
+//! constants of type int64; every other text within the limit of bytes is refused as not built, and a longer one as
+//! too long.
 #![tactic(auto)]
 
 pub mod laws;

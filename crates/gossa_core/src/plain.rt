@@ -230,7 +230,7 @@ fn emit_sum(
         a: Some(0),
         b: Some(second),
     };
-    emit(lines, Line::Op(Op::Arm64Add, 0, operands, Note::Value(id)))?;
+    emit(lines, Line::Op(Op::Arm64ADD, 0, operands, Note::Value(id)))?;
     emit_spill(lines, places, 0, id)
 }
 

@@ -1,20 +1,23 @@
 -- Runs with a larger bound: what ended stays as it was.
-use Rattle.std.proofs.Common.{◌≡◌, ℕ, zero, suc, ◌+◌, ◌≤◌, true, false, cond, eqb, List, ◌∷◌, length, Option, None, Some, slice_get, refl, ap, ◌∙◌, add-one, arith}
+use Rattle.std.proofs.Common.{◌≡◌, ℕ, ℤ, zero, suc, ◌+◌, ◌≤◌, true, false, cond, eqb, List, ◌∷◌, length, Option, None, Some, slice_get, refl, ap, ◌∙◌, add-one, arith}
 use Rattle.gossa_base.specs.declared.ids.ValueId.{ValueId}
 use Rattle.gossa_base.specs.declared.ids.BlockId.{BlockId}
 use Rattle.ssa_ir.specs.declared.case.End.TheVariants.{Going}
-use Rattle.ssa_ir.specs.Evaluation.{role}
+use Rattle.ssa_ir.specs.declared.case.Shown.{Shown}
+use Rattle.ssa_ir.specs.declared.op.Op.{Op}
+use Rattle.ssa_ir.specs.Evaluation.{Role, Computes, TakesParameter, Rests, NotBuilt, role}
 use Rattle.ssa_ir.specs.Inputs.{Inputs}
 use Rattle.ssa_ir.specs.Run.{Callees, is_set}
 use Rattle.ssa_ir.specs.Showing.{ends}
 use Rattle.ssa_ir.proofs.RunLemmas.{Stays, stays_either}
 use Rattle.listing.specs.declared.line.Line.{Line}
 use Rattle.listing.specs.declared.line.Line.TheVariants.{Label, Op as Compute, Move, Nil, Branch, BitBranch, Jump, Call, Ret, Exit}
+use Rattle.listing.specs.declared.line.Operands.{Operands}
 use Rattle.listing.specs.declared.code.Code.{Code}
 use Rattle.listing.specs.declared.code.Map.{Map}
 use Rattle.listing.specs.declared.code.Listing.{Listing}
 use Rattle.listing.specs.Frame.{frame_words}
-use Rattle.listing.specs.Machine.{Machine, Onward, word_at, with_place, computes, label_from, at_place, jumps, run_line}
+use Rattle.listing.specs.Machine.{Machine, Onward, word_at, with_place, with_computed, run_computing, label_from, at_place, jumps, run_line}
 use Rattle.listing.specs.ListingRun.{begun, line_at, follow, turns, run_listing}
 
 -- wherever the first way ended within its bound, the second is the same
@@ -29,11 +32,19 @@ jumps_stay : (code : Code) (go more : Onward) (b : BlockId) (m : Machine) → St
     → Stays (jumps code go b m) (jumps code more b m)
 jumps_stay code go more b m h = at_place_stays go more m (label_from 0 b code.lines) h
 
+computing_stays : (r : Role) (op : Op) (aux : ℤ) (o : Operands) (go more : Machine → Shown) (m : Machine)
+    → ((k : Machine) → Stays (go k) (more k)) → Stays (run_computing r op aux o go m) (run_computing r op aux o more m)
+computing_stays Computes op aux o go more m h = h (with_computed op aux o m)
+computing_stays TakesParameter op aux o go more m h = h m
+computing_stays Rests op aux o go more m h = h m
+computing_stays NotBuilt op aux o go more m h = λ _. refl
+
 line_stays : (callees : Callees) (inputs : Inputs) (code : Code) (maps : Option (List Map)) (turn later go more : Onward) (line : Line)
     → StaysOnward turn later → StaysOnward go more
     → StaysOnward (run_line callees inputs code maps turn go line) (run_line callees inputs code maps later more line)
 line_stays callees inputs code maps turn later go more (Label b held) t h i m = stays_either b.split _ _ _ _ (h (suc i) m) (t (suc i) m)
-line_stays callees inputs code maps turn later go more (Compute op aux o note) t h i m = h (suc i) (computes (role op) op aux o m)
+line_stays callees inputs code maps turn later go more (Compute op aux o note) t h i m =
+    computing_stays (role op) op aux o (go (suc i)) (more (suc i)) m (h (suc i))
 line_stays callees inputs code maps turn later go more (Move to from note) t h i m = h (suc i) (with_place to (word_at inputs code from m) m)
 line_stays callees inputs code maps turn later go more (Nil r note) t h i m =
     stays_either (eqb (m.registers r) 0) _ _ _ _ (λ _. refl) (h (suc i) m)

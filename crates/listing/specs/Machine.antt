@@ -9,7 +9,7 @@ use Rattle.ssa_ir.specs.declared.case.End.TheVariants.{Returned, Trapped, Exited
 use Rattle.ssa_ir.specs.declared.case.Shown.{Shown}
 use Rattle.ssa_ir.specs.declared.op.Op.{Op}
 use Rattle.ssa_ir.specs.ArgumentPlaces.{result_places}
-use Rattle.ssa_ir.specs.Evaluation.{eval, Role, Computes, TakesParameter, Rests, role}
+use Rattle.ssa_ir.specs.Evaluation.{eval, Role, Computes, TakesParameter, Rests, NotBuilt, role}
 use Rattle.ssa_ir.specs.Inputs.{Inputs, Answer, symbol_word}
 use Rattle.ssa_ir.specs.Edges.{same_block}
 use Rattle.ssa_ir.specs.Run.{Callees, put, is_set}
@@ -74,11 +74,16 @@ abbrev pub with_result : Machine → Option ℕ → ℕ → Machine
 with_result m None w = m
 with_result m (Some r) w = with_place (Reg r) w m
 
--- a computing line: the word of its op goes to the result's register
-abbrev pub computes : Role → Op → ℤ → Operands → Machine → Machine
-computes Computes op aux o m = with_result m o.dst (eval op aux (register_word m o.a) (register_word m o.b) 0 m.flags)
-computes TakesParameter op aux o m = m
-computes Rests op aux o m = m
+-- the machine with the word that an op computes in the result's register
+abbrev pub with_computed : Op → ℤ → Operands → Machine → Machine
+with_computed op aux o m = with_result m o.dst (eval op aux (register_word m o.a) (register_word m o.b) 0 m.flags)
+
+-- a computing line whose op has this role, and then the rest of the run; an op that isn't built ends it stuck
+abbrev pub run_computing : Role → Op → ℤ → Operands → (go : Machine → Shown) → Machine → Shown
+run_computing Computes op aux o go m = go (with_computed op aux o m)
+run_computing TakesParameter op aux o go m = go m
+run_computing Rests op aux o go m = go m
+run_computing NotBuilt op aux o go m = ends Stuck
 
 -- where an argument or result stands on the callee's side
 abbrev pub own_place : AbiPlace → Place
@@ -116,7 +121,7 @@ jumps code go b m = at_place go m (label_from 0 b code.lines)
 -- arguments stand. No branch on flags and no call is built yet
 abbrev pub run_line : Callees → Inputs → Code → Option (List Map) → (turn go : Onward) → Line → ℕ → Machine → Shown
 run_line callees inputs code maps turn go (Label b held) i m = if b.split then go (suc i) m else turn (suc i) m
-run_line callees inputs code maps turn go (Compute op aux o note) i m = go (suc i) (computes (role op) op aux o m)
+run_line callees inputs code maps turn go (Compute op aux o note) i m = run_computing (role op) op aux o (go (suc i)) m
 run_line callees inputs code maps turn go (Move to from note) i m = go (suc i) (with_place to (word_at inputs code from m) m)
 run_line callees inputs code maps turn go (Nil r note) i m =
     if m.registers r == 0 then ends (Trapped (changed m.since m.memory)) else go (suc i) m

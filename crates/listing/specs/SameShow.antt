@@ -1,9 +1,9 @@
 -- A unit's listings show what the unit shows.
-use Rattle.std.specs.Prelude.{◌≡◌, ℕ, ◌++◌, map, find, Some, slice_get, nat_eq}
-use Rattle.std.specs.Cmp.Lexicographic.{pointwise}
+use Rattle.std.specs.Prelude.{◌≡◌, ℕ, map, Some, slice_get}
 use Rattle.ssa_ir.specs.declared.func.Func.{Func}
 use Rattle.ssa_ir.specs.declared.func.SsaUnit.{SsaUnit}
 use Rattle.ssa_ir.specs.Inputs.{Inputs}
+use Rattle.ssa_ir.specs.Lookups.{sig_of}
 use Rattle.ssa_ir.specs.Run.{Callees, generic, run}
 use Rattle.listing.specs.declared.code.Listing.{Listing}
 use Rattle.listing.specs.declared.code.Listings.{Listings}
@@ -11,7 +11,7 @@ use Rattle.listing.specs.ListingRun.{run_listing}
 
 -- the signatures that a unit gives to its callees: those of its sig lines and of its functions, by name
 abbrev pub callees_of : SsaUnit → Callees
-callees_of u name = find (λ s. pointwise nat_eq s.name name) (u.sigs ++ map (λ f. f.sig) u.funcs)
+callees_of u name = sig_of u name
 
 -- a function's listing shows what the function shows, for every bound and all inputs, whatever replies they have
 abbrev pub ShowsAs : Callees → Func → Listing → Type 0

@@ -5,7 +5,7 @@ use Rattle.std.specs.List.{flat_map}
 use Rattle.gossa_base.specs.declared.ids.ValueId.{ValueId}
 use Rattle.gossa_base.specs.Texts.{led, value_text, block_text}
 use Rattle.ssa_ir.specs.declared.op.Op.{Op}
-use Rattle.ssa_ir.specs.declared.op.Op.TheVariants.{Arm64Add}
+use Rattle.ssa_ir.specs.declared.op.Op.TheVariants.{Arm64ADD}
 use Rattle.ssa_ir.specs.declared.op.CondCode.{CondCode}
 use Rattle.ssa_ir.specs.declared.op.CondCode.TheVariants.{EQ, NE, LT, LE, GT, GE, LO, LS, HI, HS}
 use Rattle.ssa_ir.specs.Texts.{newline, sig_text, sig_line}
@@ -76,9 +76,9 @@ cond_text HS = codes "HS"
 abbrev pub three_regs : Operands → List ℕ
 three_regs o = reg_or_none o.b ++ (codes ", " ++ (reg_or_none o.a ++ (codes ", " ++ reg_or_none o.dst)))
 
--- a computing line; an op that isn't the machine's has no text
+-- a computing line; of the machine's ops only the sum has a text yet
 abbrev pub op_text : Op → ℤ → Operands → List ℕ
-op_text Arm64Add aux o = codes "ADD " ++ three_regs o
+op_text Arm64ADD aux o = codes "ADD " ++ three_regs o
 op_text _ aux o = []
 
 -- a register and the value in it, as R0=v2

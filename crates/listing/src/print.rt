@@ -172,12 +172,12 @@ fn print_held(text: &mut Vec<u8>, held: &[(u32, ValueId)]) -> Result<(), NoMemor
     Ok(())
 }
 
-// A computing line; an op that isn't the machine's has no text.
+// A computing line; of the machine's ops only the sum has a text yet.
 fn print_op(text: &mut Vec<u8>, op: Op, _aux: i64, operands: &Operands) -> Result<(), NoMemory>
     ensures { OnOk result (text.new.items ≡ text.old.items ++ op_text op _aux operands.now) }
 {
     match op {
-        Op::Arm64Add => {
+        Op::Arm64ADD => {
             put(text, b"ADD ")?;
             print_three_registers(text, operands)
         }

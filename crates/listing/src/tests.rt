@@ -116,7 +116,7 @@ fn sum_code(alloc: Global) -> Result<Code, NoMemory> {
         Line::Move(Place::Frame(1), Place::Reg(1), Note::Spill(ValueId(3))),
         Line::Move(Place::Reg(0), Place::Frame(0), Note::Load(ValueId(2))),
         Line::Move(Place::Reg(1), Place::Frame(1), Note::Load(ValueId(3))),
-        Line::Op(Op::Arm64Add, 0, operands, Note::Value(ValueId(4))),
+        Line::Op(Op::Arm64ADD, 0, operands, Note::Value(ValueId(4))),
         Line::Move(Place::Frame(2), Place::Reg(0), Note::Spill(ValueId(4))),
         Line::Move(Place::Reg(0), Place::Frame(2), Note::Results),
         Line::Ret,

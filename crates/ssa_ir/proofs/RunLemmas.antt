@@ -9,7 +9,7 @@ use Rattle.ssa_ir.specs.declared.func.Kind.TheVariants.{Plain, If, Ret, Exit, Co
 use Rattle.ssa_ir.specs.declared.func.Block.{Block}
 use Rattle.ssa_ir.specs.declared.func.Func.{Func}
 use Rattle.ssa_ir.specs.Edges.{block_named, edge_number}
-use Rattle.ssa_ir.specs.Evaluation.{Role, Computes, TakesParameter, Rests, role}
+use Rattle.ssa_ir.specs.Evaluation.{Role, Computes, TakesParameter, Rests, NotBuilt, role}
 use Rattle.ssa_ir.specs.Inputs.{Inputs}
 use Rattle.ssa_ir.specs.Run.{Form, State, with_word, computed, kept, parameter_word, entered, control_word, is_set, run_role, run_values, arrives, goes_to, leaves, run_control, run_block, to_counted, turns, begun, run_from, run}
 use Rattle.ssa_ir.specs.Showing.{ends}
@@ -34,6 +34,7 @@ role_stays : (form : Form) (inputs : Inputs) (v : Value) (r : Role) (s : State) 
 role_stays form inputs v Computes s go more h = h (with_word s v.id.0 (computed v s.words))
 role_stays form inputs v TakesParameter s go more h = h (with_word s v.id.0 (kept form.whole v.ty (parameter_word inputs v.aux)))
 role_stays form inputs v Rests s go more h = h s
+role_stays form inputs v NotBuilt s go more h = λ _. refl
 
 values_stay : (form : Form) (inputs : Inputs) (values : List Value) (s : State) (go more : State → Shown)
     → ((t : State) → Stays (go t) (more t)) → Stays (run_values form inputs values s go) (run_values form inputs values s more)

@@ -1,8 +1,9 @@
--- What an op computes of its operands' words. A generic op answers at its width, an op of the machine the whole word.
+-- What an op computes of its operands' words. A generic op answers at its width, an op of the machine the whole word. The
+-- ops that have no row of their own here aren't built: their word is 0, and a run that comes to one ends stuck.
 use Rattle.std.specs.Prelude.{ℕ, ℤ, ◌+◌}
 use Rattle.gossa_base.specs.Words.{low, word_of}
 use Rattle.ssa_ir.specs.declared.op.Op.{Op}
-use Rattle.ssa_ir.specs.declared.op.Op.TheVariants.{InitMem, Arg, Const, Add, MakeResult, Arm64Add}
+use Rattle.ssa_ir.specs.declared.op.Op.TheVariants.{InitMem, Arg, Const, Add, MakeResult, Arm64ADD}
 use Rattle.ssa_ir.specs.Widths.{bits}
 
 -- the sum at a width
@@ -14,10 +15,8 @@ sum_at k a b = low k (a + b)
 abbrev pub eval : Op → ℤ → (a b c flags : ℕ) → ℕ
 eval (Const w) aux a b c flags = low (bits w) (word_of aux)
 eval (Add w) aux a b c flags = sum_at (bits w) a b
-eval Arm64Add aux a b c flags = sum_at 64 a b
-eval InitMem aux a b c flags = 0
-eval Arg aux a b c flags = 0
-eval MakeResult aux a b c flags = 0
+eval Arm64ADD aux a b c flags = sum_at 64 a b
+eval _ aux a b c flags = 0
 
 -- what an op is to a run
 pub data Role : Type 0 where
@@ -27,6 +26,8 @@ pub data Role : Type 0 where
   TakesParameter : Role
   -- it names a memory or results, and does nothing
   Rests : Role
+  -- its row isn't built
+  NotBuilt : Role
 
 abbrev pub role : Op → Role
 role InitMem = Rests
@@ -34,4 +35,5 @@ role Arg = TakesParameter
 role (Const w) = Computes
 role (Add w) = Computes
 role MakeResult = Rests
-role Arm64Add = Computes
+role Arm64ADD = Computes
+role _ = NotBuilt

@@ -1,38 +1,29 @@
 -- The first order of a block: the phis, and then repeatedly the first value in text order whose arguments in the block
 -- stand before it, and, where it makes a memory or calls, behind the readers of the memory that it takes.
-use Rattle.std.specs.Prelude.{ℕ, zero, suc, ◌==◌, Bool, true, false, not, ◌&&◌, ◌||◌, List, [], ◌∷◌, ◌++◌, length, filter, Option, None, Some}
-use Rattle.std.specs.List.{list_all, list_any}
+use Rattle.std.specs.Prelude.{ℕ, zero, suc, ◌==◌, int_lt, Bool, true, false, not, ◌&&◌, ◌||◌, if◌then◌else◌, List, [], ◌∷◌, ◌++◌, length, filter, Option, None, Some}
+use Rattle.std.specs.List.{list_all, list_any, last_or}
 use Rattle.gossa_base.specs.declared.ids.ValueId.{ValueId}
 use Rattle.ssa_ir.specs.declared.op.Op.{Op}
-use Rattle.ssa_ir.specs.declared.op.Op.TheVariants.{InitMem, Arg, Const, Add, MakeResult, Arm64Add}
+use Rattle.ssa_ir.specs.declared.op.Op.TheVariants.{Phi, StaticLECall, SelectN, Arm64CALLstatic}
 use Rattle.ssa_ir.specs.declared.func.Value.{Value}
+use Rattle.ssa_ir.specs.Ops.{row_of}
 
--- no op of these functions is a phi
 abbrev pub is_phi : Op → Bool
-is_phi InitMem = false
-is_phi Arg = false
-is_phi (Const w) = false
-is_phi (Add w) = false
-is_phi MakeResult = false
-is_phi Arm64Add = false
+is_phi Phi = true
+is_phi _ = false
 
--- no op of these functions reads memory
+abbrev pub is_call : Op → Bool
+is_call StaticLECall = true
+is_call Arm64CALLstatic = true
+is_call _ = false
+
+-- the ops that read a memory and make none: loads and nil checks
 abbrev pub reads_memory : Op → Bool
-reads_memory InitMem = false
-reads_memory Arg = false
-reads_memory (Const w) = false
-reads_memory (Add w) = false
-reads_memory MakeResult = false
-reads_memory Arm64Add = false
+reads_memory op = (row_of op).reads_mem
 
--- no op of these functions takes a memory to make the next, or calls
+-- the ops that make a memory, and calls
 abbrev pub changes_memory : Op → Bool
-changes_memory InitMem = false
-changes_memory Arg = false
-changes_memory (Const w) = false
-changes_memory (Add w) = false
-changes_memory MakeResult = false
-changes_memory Arm64Add = false
+changes_memory op = (row_of op).makes_mem || is_call op
 
 abbrev pub same_value : ValueId → ValueId → Bool
 same_value a b = a.0 == b.0
@@ -41,9 +32,9 @@ same_value a b = a.0 == b.0
 abbrev pub has_value : List Value → ValueId → Bool
 has_value values id = list_any (λ v. same_value v.id id) values
 
--- the memory that an op takes, of these arguments; no op of these functions takes one to read or change it
+-- the memory that an op takes to read or change it, of these arguments: the last
 abbrev pub memory_taken : Op → List ValueId → Option ValueId
-memory_taken _ args = None
+memory_taken op args = if reads_memory op || changes_memory op then last_or None args else None
 
 abbrev pub same_memory : Option ValueId → Option ValueId → Bool
 same_memory None other = false
@@ -75,13 +66,27 @@ abbrev pub split_ready : (block placed rest : List Value) → Option (Value × L
 split_ready block placed [] = None
 split_ready block placed (v ∷ rest) = ready_or_later v rest (is_ready block placed v) (split_ready block placed rest)
 
--- whether a value of this op stands with another one, as the selects of a call do; no op of these functions does
+-- whether a value of this op stands with another one: the selects of a call do
 abbrev pub is_follower : Op → Bool
+is_follower SelectN = true
 is_follower _ = false
 
--- the values that stand with a value of this op, in order
+-- whether a value is a select of a call
+abbrev pub selects : ValueId → Value → Bool
+selects id v = is_follower v.op && list_any (same_value id) v.args
+
+-- values by ascending number in brackets, and of equal numbers in text order
+abbrev pub put_by_number : Value → List Value → List Value
+put_by_number v [] = v ∷ []
+put_by_number v (u ∷ values) = if int_lt u.aux v.aux then u ∷ put_by_number v values else (v ∷ u ∷ values)
+
+abbrev pub by_number : List Value → List Value
+by_number [] = []
+by_number (v ∷ values) = put_by_number v (by_number values)
+
+-- the values that stand with a value of this op, in order: those of a call are its selects, by index
 abbrev pub followers_of : (block : List Value) → Value → Op → List Value
-followers_of block v _ = []
+followers_of block v op = if is_call op then by_number (filter (selects v.id) block) else []
 
 -- a value and what stands with it: they are placed together
 abbrev pub item : (block : List Value) → Value → List Value

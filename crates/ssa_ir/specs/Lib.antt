@@ -1,10 +1,17 @@
 pub mod ArgumentPlaces
+pub mod BoundsChecked
 pub mod Edges
 pub mod Evaluation
 pub mod FirstOrder
 pub mod Inputs
+pub mod Limits
+pub mod Lookups
+pub mod Names
+pub mod OpNames
+pub mod Ops
 pub mod Run
 pub mod RunLaws
 pub mod Showing
 pub mod Texts
+pub mod WellFormed
 pub mod Widths

@@ -16,7 +16,7 @@ use Rattle.ssa_ir.specs.declared.func.Func.{Func}
 use Rattle.ssa_ir.specs.declared.case.End.TheVariants.{Returned, Exited, Going, Stuck}
 use Rattle.ssa_ir.specs.declared.case.Shown.{Shown}
 use Rattle.ssa_ir.specs.Edges.{block_named, edge_number}
-use Rattle.ssa_ir.specs.Evaluation.{eval, Role, Computes, TakesParameter, Rests, role}
+use Rattle.ssa_ir.specs.Evaluation.{eval, Role, Computes, TakesParameter, Rests, NotBuilt, role}
 use Rattle.ssa_ir.specs.FirstOrder.{first_order}
 use Rattle.ssa_ir.specs.Inputs.{Inputs, Answer, argument}
 use Rattle.ssa_ir.specs.Showing.{ends, words_at}
@@ -60,7 +60,7 @@ operand words [] i = 0
 operand words (a ∷ args) zero = words a.0
 operand words (a ∷ args) (suc i) = operand words args i
 
--- the flags that an op reads, of these arguments; no op of these functions reads any
+-- the flags that an op reads, of these arguments; no op that is built reads any
 abbrev pub flags_word : Op → (ℕ → ℕ) → List ValueId → ℕ
 flags_word _ words args = 0
 
@@ -84,6 +84,7 @@ abbrev pub run_role : Form → Inputs → Value → Role → State → (State �
 run_role form inputs v Computes s go = go (with_word s v.id.0 (computed v s.words))
 run_role form inputs v TakesParameter s go = go (with_word s v.id.0 (kept form.whole v.ty (parameter_word inputs v.aux)))
 run_role form inputs v Rests s go = go s
+run_role form inputs v NotBuilt s go = ends Stuck
 
 -- values in order, and then the rest of the run
 abbrev pub run_values : Form → Inputs → List Value → State → (State → Shown) → Shown
@@ -94,7 +95,7 @@ run_values form inputs (v ∷ values) s go = run_role form inputs v (role v.op) 
 abbrev pub value_named : List Value → ValueId → Option Value
 value_named values id = find (λ v. v.id.0 == id.0) values
 
--- the value whose word a value takes where its block is entered by edge k; no op of these functions is a phi
+-- the value whose word a value takes where its block is entered by edge k; no op that is built is a phi
 abbrev pub source_by_op : ℕ → ValueId → List ValueId → Op → ValueId
 source_by_op k id args _ = id
 
@@ -136,7 +137,7 @@ leaves f go b j s = goes_to f go b j s (slice_get b.succs j)
 abbrev pub is_set : ℕ → Bool
 is_set w = low 1 w == 1
 
--- how a block of this kind ends, and then the rest of the run; no op of these functions makes flags
+-- how a block of this kind ends, and then the rest of the run; no op that is built makes flags
 abbrev pub run_control : Form → Func → (Block → Option ℕ → State → Shown) → Block → Kind → State → Shown
 run_control form f go b Plain s = leaves f go b 0 s
 run_control form f go b If s = leaves f go b (if is_set (control_word s.words b.control) then 0 else 1) s

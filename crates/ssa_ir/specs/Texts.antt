@@ -4,10 +4,6 @@ use Rattle.std.specs.List.{join_by}
 use Rattle.ssa_ir.specs.declared.types.Scalar.{Scalar}
 use Rattle.ssa_ir.specs.declared.types.Scalar.TheVariants.{I8, I16, I32, I64, U8, U16, U32, U64, Uintptr, Bool, Ptr}
 use Rattle.ssa_ir.specs.declared.types.Sig.{Sig}
-use Rattle.ssa_ir.specs.declared.op.Width.{Width}
-use Rattle.ssa_ir.specs.declared.op.Width.TheVariants.{W8, W16, W32, W64}
-use Rattle.ssa_ir.specs.declared.op.Op.{Op}
-use Rattle.ssa_ir.specs.declared.op.Op.TheVariants.{InitMem, Arg, Const, Add, MakeResult, Arm64Add}
 
 abbrev pub newline : List ℕ
 newline = 10 ∷ []
@@ -42,19 +38,3 @@ sig_text s = s.name ++ (group_text s.params ++ results_text s.results)
 -- the line of a signature that a unit names
 abbrev pub sig_line : Sig → List ℕ
 sig_line s = codes "sig " ++ (sig_text s ++ newline)
-
--- a width, in bits
-abbrev pub width_name : Width → List ℕ
-width_name W8 = codes "8"
-width_name W16 = codes "16"
-width_name W32 = codes "32"
-width_name W64 = codes "64"
-
--- an op's name, as Go's rules spell it
-abbrev pub op_name : Op → List ℕ
-op_name InitMem = codes "InitMem"
-op_name Arg = codes "Arg"
-op_name (Const w) = codes "Const" ++ width_name w
-op_name (Add w) = codes "Add" ++ width_name w
-op_name MakeResult = codes "MakeResult"
-op_name Arm64Add = codes "ADD"

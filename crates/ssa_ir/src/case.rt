@@ -25,8 +25,8 @@ pub type Pieces = Sequence<Piece>;
 /// The addresses of symbols, by name.
 pub type SymWords = Sequence<(Name, u64)>;
 
-/// What a callee answers: its result words, the memory that it wrote, what it left in the registers that
-/// hold no result, and the word that stands in each pointer slot outside the call's map.
+/// What a callee answers: its result words, the memory that it wrote, what it left in all that holds no result
+/// (registers, flags and outgoing words), and the word that stands in each pointer slot outside the call's map.
 #[derive(Clone, Drop)]
 pub struct Reply {
     pub words: Words,
@@ -81,7 +81,7 @@ pub enum End {
     NoReply,
     /// At the bound.
     Going,
-    /// In code that goes on nowhere. No listing that was compiled ends so.
+    /// In code that goes on nowhere, or at an op, a branch or a call whose meaning isn't defined yet.
     Stuck,
 }
 

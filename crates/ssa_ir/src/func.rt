@@ -33,11 +33,11 @@ pub enum Kind {
     If,
     /// Returns its control, a MakeResult.
     Ret,
-    /// Ends the program after a call that doesn't return; its control is a memory.
+    /// Ends the program, as behind a call that doesn't return; its control is a memory.
     Exit,
-    /// Goes to the first successor where the condition holds of its control, a comparison.
+    /// Goes to the first successor where the condition holds of its control, a comparison, else to the second.
     Cond(CondCode),
-    /// Goes to the first successor where bit 0 of its control is 1.
+    /// Goes to the first successor where bit 0 of its control is 1, else to the second.
     Bit,
 }
 

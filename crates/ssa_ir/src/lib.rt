@@ -10,7 +10,10 @@
 //! b1:  ...  Ret v5              block 1, kind Ret, control v5
 //! ```
 //!
-//! Known limits: of the ops only those are here that a function of one block that adds needs.
+//! [`op_row`] is the table of ops: how many arguments each takes, what its brackets or braces hold, and whether it reads
+//! or makes a memory. `specs/WellFormed.antt` says what a well-formed unit is.
+//!
+//! Known limits: what an op computes is defined for the sum, constants and parameters alone.
 #![tactic(auto)]
 
 pub mod abi;
@@ -18,7 +21,9 @@ pub mod args;
 pub mod case;
 pub mod func;
 pub mod laws;
+pub mod lookups;
 pub mod op;
+pub mod op_names;
 pub mod texts;
 pub mod types;
 
@@ -29,7 +34,7 @@ pub use case::{
     SymWords, Words,
 };
 pub use func::{Block, BlockIds, Blocks, Func, Funcs, Kind, SsaUnit, Value, Values};
-pub use op::{CondCode, Op, Width};
+pub use op::{Arity, AuxRule, CondCode, Op, OpRow, Width, WidthPair, op_row};
 pub use texts::print_sigs;
 pub use types::{Scalar, Scalars, Sig, Sigs, Ty};
 

@@ -1,6 +1,9 @@
 // Texts, arguments and copies.
 
-use crate::{Args, Block, Func, Kind, Op, Scalar, Sig, Ty, Value, Width, print_sigs};
+use crate::{
+    Args, Arity, AuxRule, Block, Func, Kind, Op, Scalar, Sig, SsaUnit, Ty, Value, Width, WidthPair,
+    op_row, print_sigs,
+};
 use gossa_base::{BlockId, Name, NoMemory, Print, Sequence, ValueId, print_all, put, put_signed};
 use std::alloc::Global;
 use std::test::Fail;
@@ -30,26 +33,81 @@ fn types_have_texts(rt: HostRuntime) -> Result<(), Fail> {
 }
 
 #[test]
-fn ops_have_texts(rt: HostRuntime) -> Result<(), Fail> {
+fn ops_have_names(rt: HostRuntime) -> Result<(), Fail> {
     for (op, want) in [
         (Op::InitMem, "InitMem"),
-        (Op::Arg, "Arg"),
         (Op::Const(Width::W8), "Const8"),
-        (Op::Const(Width::W16), "Const16"),
-        (Op::Const(Width::W32), "Const32"),
-        (Op::Const(Width::W64), "Const64"),
-        (Op::Add(Width::W8), "Add8"),
-        (Op::Add(Width::W64), "Add64"),
-        (Op::MakeResult, "MakeResult"),
-        (Op::Arm64Add, "ADD"),
+        (Op::DivU(Width::W32), "Div32u"),
+        (Op::RshU(Width::W16), "Rsh16Ux64"),
+        (Op::SignExt(WidthPair::W8W64), "SignExt8to64"),
+        (Op::Trunc(WidthPair::W16W32), "Trunc32to16"),
+        (Op::StaticLECall, "StaticLECall"),
+        (Op::Arm64ADD, "ADD"),
+        (Op::Arm64MOVBUload, "MOVBUload"),
+        (Op::Arm64GreaterEqualU, "GreaterEqualU"),
     ] {
         assert_eq!(rt;
             text_of(rt.alloc(), &op)?.as_slice(),
             want.as_bytes(),
             "for {want}"
         );
+        assert_eq!(rt; Op::named(want.as_bytes()), Some(op), "for {want}");
+    }
+    for unknown in ["", "Add", "Add64 ", "Hmul64", "add64", "zzz"] {
+        assert_eq!(rt; Op::named(unknown.as_bytes()), None, "for {unknown}");
     }
     Ok(())
+}
+
+#[test]
+fn ops_have_rows(rt: HostRuntime) {
+    let store = op_row(Op::Store);
+    assert_eq!(rt; store.arity, Arity::Exact(3));
+    assert_eq!(rt; store.aux, AuxRule::Elem);
+    assert!(rt; store.makes_mem && !store.reads_mem);
+    let phi = op_row(Op::Phi);
+    assert_eq!(rt; phi.arity, Arity::Any);
+    assert_eq!(rt; phi.aux, AuxRule::Nothing);
+    assert!(rt; op_row(Op::Arm64MOVDload).reads_mem);
+    assert_eq!(rt; op_row(Op::Mod(Width::W8)).aux, AuxRule::Dropped);
+}
+
+#[test]
+fn looks_up_what_is_there(rt: HostRuntime) -> Result<(), Fail> {
+    let alloc = rt.alloc();
+    let mut sigs = Sequence::new(alloc);
+    sigs.push(sig(alloc, b"g", &[Scalar::Bool], &[])?)?;
+    let mut funcs = Sequence::new(alloc);
+    funcs.push(func(alloc)?)?;
+    let unit = SsaUnit {
+        sigs,
+        funcs,
+        cases: Sequence::new(alloc),
+    };
+    let outside = Name::from_slice(alloc, b"g")?;
+    let inside = Name::from_slice(alloc, b"f")?;
+    let absent = Name::from_slice(alloc, b"h")?;
+    assert_eq!(rt; params_of(&unit, &outside), Some(1));
+    assert_eq!(rt; params_of(&unit, &inside), Some(1));
+    assert_eq!(rt; params_of(&unit, &absent), None);
+    assert_eq!(rt; unit.func_named(&inside), Some(0));
+    assert_eq!(rt; unit.func_named(&outside), None);
+    Ok(())
+}
+
+#[test]
+fn looks_up_values_and_blocks(rt: HostRuntime) -> Result<(), Fail> {
+    let func = func(rt.alloc())?;
+    assert!(rt; func.value(ValueId(3)).is_some());
+    assert!(rt; func.value(ValueId(2)).is_none());
+    assert!(rt; func.block(BlockId { split: false, n: 1 }).is_some());
+    assert!(rt; func.block(BlockId { split: true, n: 1 }).is_none());
+    Ok(())
+}
+
+// How many parameters the signature of a name has.
+fn params_of(unit: &SsaUnit, name: &Name) -> Option<usize> {
+    Some(unit.sig_of(name)?.params.len())
 }
 
 #[test]

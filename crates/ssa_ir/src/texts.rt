@@ -2,9 +2,8 @@
 
 ghost use Rattle.std.specs.Prelude.{◌≡◌, ◌++◌, OnOk};
 ghost use Rattle.std.specs.List.{flat_map};
-ghost use Rattle.ssa_ir.specs.Texts.{scalar_name, sig_text, sig_line, width_name, op_name};
+ghost use Rattle.ssa_ir.specs.Texts.{scalar_name, sig_text, sig_line};
 
-use crate::op::{Op, Width};
 use crate::types::{Scalar, Sig};
 use gossa_base::{NoMemory, Print, print_joined, put};
 
@@ -45,7 +44,8 @@ impl Print for Sig {
     }
 }
 
-/// Appends the `sig` lines of signatures that a unit names.
+/// Appends the `sig` lines of signatures that a unit names. An error comes only for want of memory, and may leave a part
+/// of the text behind.
 pub fn print_sigs(out: &mut Vec<u8>, sigs: &[Sig]) -> Result<(), NoMemory>
     ensures { OnOk result (out.new.items ≡ out.old.items ++ flat_map sig_line sigs.now) }
 {
@@ -55,38 +55,4 @@ pub fn print_sigs(out: &mut Vec<u8>, sigs: &[Sig]) -> Result<(), NoMemory>
         put(out, b"\n")?;
     }
     Ok(())
-}
-
-impl Print for Width {
-    ghost text = { width_name };
-
-    fn print(&self, out: &mut Vec<u8>) -> Result<(), NoMemory> {
-        match self {
-            Width::W8 => put(out, b"8"),
-            Width::W16 => put(out, b"16"),
-            Width::W32 => put(out, b"32"),
-            Width::W64 => put(out, b"64"),
-        }
-    }
-}
-
-impl Print for Op {
-    ghost text = { op_name };
-
-    fn print(&self, out: &mut Vec<u8>) -> Result<(), NoMemory> {
-        match self {
-            Op::InitMem => put(out, b"InitMem"),
-            Op::Arg => put(out, b"Arg"),
-            Op::Const(width) => {
-                put(out, b"Const")?;
-                width.print(out)
-            }
-            Op::Add(width) => {
-                put(out, b"Add")?;
-                width.print(out)
-            }
-            Op::MakeResult => put(out, b"MakeResult"),
-            Op::Arm64Add => put(out, b"ADD"),
-        }
-    }
 }

@@ -1,1 +1,2 @@
+pub mod CaseText
 pub mod Text

@@ -1,7 +1,7 @@
 //! The text of units, in the form of Go's SSA dumps.
 //!
-//! [`print_unit`] gives the one canonical text of a unit: no indentation, one space between words, each line
-//! ended by LF.
+//! [`print_unit`] gives the one canonical text of a unit, and [`print_cases`] that of its cases alone: no indentation,
+//! one space between words, each line ended by LF.
 //!
 //! ```text
 //! func f(int64) (int64)
@@ -10,13 +10,17 @@
 //! v2 = Arg <int64> [0]
 //! v3 = MakeResult <int64,mem> v2 v1
 //! Ret v3
+//! case f 1
+//! args 0x7
 //! ```
 //!
-//! Known limits: cases have no text yet, and nothing is read.
+//! Known limits: nothing is read yet.
 #![tactic(auto)]
 
+pub mod cases;
 pub mod print;
 
+pub use cases::print_cases;
 pub use print::print_unit;
 
 #[cfg(test)]

@@ -2,7 +2,7 @@
 
 ghost use Rattle.std.specs.Prelude.{◌≡◌, ◌≢◌, ℕ, ◌≤◌, List, ◌++◌, codes, IfOk, IsTrue, MatchOption, ◌↔◌};
 ghost use Rattle.std.specs.List.{list_all};
-ghost use Rattle.gossa_core.specs.Names.{is_name_start, is_name_byte, has_name_bytes, IsName};
+ghost use Rattle.ssa_ir.specs.Names.{is_name_start, is_name_byte, has_name_bytes, IsName};
 ghost use Rattle.gossa_core.specs.NarrowParts.{params_text, head_line};
 ghost use Rattle.gossa_core.specs.Narrow.{narrow_sig};
 

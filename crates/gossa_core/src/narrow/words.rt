@@ -5,7 +5,7 @@ ghost use Rattle.std.specs.Fmt.{signed_decimal};
 ghost use Rattle.std.specs.Int.{w64};
 ghost use Rattle.std.specs.List.{All};
 ghost use Rattle.gossa_base.specs.Texts.{value_text};
-ghost use Rattle.gossa_core.specs.Names.{is_digit};
+ghost use Rattle.ssa_ir.specs.Names.{is_digit};
 ghost use Rattle.gossa_core.specs.Narrow.{vid};
 
 use gossa_base::ValueId;
