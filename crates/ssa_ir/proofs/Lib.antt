@@ -1,5 +1,5 @@
-pub mod AllOps
 pub mod LookupLemmas
 pub mod OpNameLemmas
+pub mod OwnNames
 pub mod RunLemmas
 pub mod WellFormedLemmas

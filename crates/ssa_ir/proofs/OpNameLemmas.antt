@@ -13,7 +13,8 @@ use Rattle.std.proofs.lemmas.Map.Text.{is_eq-slice_cmp}
 use Rattle.std.proofs.lemmas.Slice.Eq.{bytes_eq-Decides}
 use Rattle.ssa_ir.specs.declared.op.Op.{Op}
 use Rattle.ssa_ir.specs.OpNames.{op_name, IsInNameOrder, IsNoneOf, IsNoOp, NamesDiffer}
-use Rattle.ssa_ir.proofs.AllOps.{all_ops, op_of_name, own_name}
+use Rattle.ssa_ir.specs.AllOps.{all_ops, op_of_name}
+use Rattle.ssa_ir.proofs.OwnNames.{own_name}
 
 -- names that compare as equal are one name
 same_name : (a b : List ℕ) → slice_cmp nat_cmp a b ≡ Equal → a ≡ b
@@ -110,6 +111,31 @@ pub named_among_all : (name : List ℕ) (found : Option Op)
     → MatchOption found (IsNoOp name) (λ op. op_name op ≡ name)
 named_among_all name None h = none_of_all name (h (in_order all_ops refl))
 named_among_all name (Some op) h = h
+
+passes_by_test : (test : Op → Bool) (a : Op) (ops : List Op) (op : Op) → find test (a ∷ ops) ≡ Some op
+    → (find test ops ≡ Some op → test op ≡ true) → (b : Bool) → test a ≡ b → test op ≡ true
+passes_by_test test a ops op e later true t =
+    let here : Some a ≡ Some op = ap (λ b. cond b (Some a) (find test ops)) (sym t) ∙ e in
+    let same : a ≡ op = cc in
+    ap test (sym same) ∙ t
+passes_by_test test a ops op e later false t = later (ap (λ b. cond b (Some a) (find test ops)) (sym t) ∙ e)
+
+-- what is found passes the test
+found_passes : (test : Op → Bool) (ops : List Op) (op : Op) → find test ops ≡ Some op → test op ≡ true
+found_passes test [] op e = cc
+found_passes test (a ∷ ops) op e = passes_by_test test a ops op e (found_passes test ops op) (test a) refl
+
+-- the op of a name is the one that has it
+pub op_of_its_name : (name : List ℕ) (found : Option Op) → MatchOption found (IsNoOp name) (λ op. op_name op ≡ name)
+    → found ≡ op_of_name name
+op_of_its_name name (Some op) h = sym (own_name op) ∙ ap op_of_name h
+op_of_its_name name None h = go (op_of_name name) refl
+  where
+    go : (o : Option Op) → op_of_name name ≡ o → None ≡ op_of_name name
+    go None e = sym e
+    go (Some op) e =
+        let test : Op → Bool = λ o. bytes_eq (op_name o) name in
+        absurd (h op ((bytes_eq-Decides (op_name op) name).0 (found_passes test all_ops op e)))
 
 -- no two ops have one name
 pub names_differ : NamesDiffer

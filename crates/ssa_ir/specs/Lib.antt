@@ -1,3 +1,4 @@
+pub mod AllOps
 pub mod ArgumentPlaces
 pub mod BoundsChecked
 pub mod Edges

@@ -266,6 +266,132 @@ pub enum Op {
     Arm64CALLstatic,
 }
 
+impl Op {
+    /// Whether it is the machine's, and no generic op.
+    pub fn is_machine(self) -> bool
+        ensures { result ≡ spec.is_machine self }
+    {
+        match self {
+            Op::Add(_)
+            | Op::Sub(_)
+            | Op::Mul(_)
+            | Op::And(_)
+            | Op::Or(_)
+            | Op::Xor(_)
+            | Op::Neg(_)
+            | Op::Com(_)
+            | Op::Div(_)
+            | Op::DivU(_) => false,
+            Op::Mod(_)
+            | Op::ModU(_)
+            | Op::Lsh(_)
+            | Op::Rsh(_)
+            | Op::RshU(_)
+            | Op::Eq(_)
+            | Op::Neq(_)
+            | Op::Less(_)
+            | Op::Leq(_)
+            | Op::LessU(_) => false,
+            Op::LeqU(_)
+            | Op::EqB
+            | Op::NeqB
+            | Op::AndB
+            | Op::OrB
+            | Op::Not
+            | Op::EqPtr
+            | Op::NeqPtr
+            | Op::IsNonNil
+            | Op::IsInBounds => false,
+            Op::IsSliceInBounds
+            | Op::SignExt(_)
+            | Op::ZeroExt(_)
+            | Op::Trunc(_)
+            | Op::AddPtr
+            | Op::OffPtr
+            | Op::Load
+            | Op::Store
+            | Op::NilCheck
+            | Op::CondSelect => false,
+            Op::Const(_)
+            | Op::ConstBool
+            | Op::ConstNil
+            | Op::SB
+            | Op::Addr
+            | Op::Phi
+            | Op::Copy
+            | Op::Arg
+            | Op::InitMem
+            | Op::StaticLECall => false,
+            Op::SelectN | Op::MakeResult => false,
+            Op::Arm64MOVDconst
+            | Op::Arm64MOVDaddr
+            | Op::Arm64ADD
+            | Op::Arm64SUB
+            | Op::Arm64AND
+            | Op::Arm64OR
+            | Op::Arm64XOR
+            | Op::Arm64MUL
+            | Op::Arm64MULW
+            | Op::Arm64ADDconst => true,
+            Op::Arm64SUBconst
+            | Op::Arm64ANDconst
+            | Op::Arm64ORconst
+            | Op::Arm64XORconst
+            | Op::Arm64NEG
+            | Op::Arm64MVN
+            | Op::Arm64DIV
+            | Op::Arm64UDIV
+            | Op::Arm64DIVW
+            | Op::Arm64UDIVW => true,
+            Op::Arm64MOD
+            | Op::Arm64UMOD
+            | Op::Arm64MODW
+            | Op::Arm64UMODW
+            | Op::Arm64SLL
+            | Op::Arm64SRL
+            | Op::Arm64SRA
+            | Op::Arm64SLLconst
+            | Op::Arm64SRLconst
+            | Op::Arm64SRAconst => true,
+            Op::Arm64MOVBreg
+            | Op::Arm64MOVHreg
+            | Op::Arm64MOVWreg
+            | Op::Arm64MOVBUreg
+            | Op::Arm64MOVHUreg
+            | Op::Arm64MOVWUreg
+            | Op::Arm64CMP
+            | Op::Arm64CMPW
+            | Op::Arm64CMPconst
+            | Op::Arm64CMPWconst => true,
+            Op::Arm64TSTWconst
+            | Op::Arm64Equal
+            | Op::Arm64NotEqual
+            | Op::Arm64LessThan
+            | Op::Arm64LessEqual
+            | Op::Arm64GreaterThan
+            | Op::Arm64GreaterEqual
+            | Op::Arm64LessThanU
+            | Op::Arm64LessEqualU
+            | Op::Arm64GreaterThanU => true,
+            Op::Arm64GreaterEqualU
+            | Op::Arm64CSEL
+            | Op::Arm64MOVBload
+            | Op::Arm64MOVHload
+            | Op::Arm64MOVWload
+            | Op::Arm64MOVBUload
+            | Op::Arm64MOVHUload
+            | Op::Arm64MOVWUload
+            | Op::Arm64MOVDload
+            | Op::Arm64MOVBstore => true,
+            Op::Arm64MOVHstore
+            | Op::Arm64MOVWstore
+            | Op::Arm64MOVDstore
+            | Op::Arm64LoweredNilCheck
+            | Op::Arm64CALLstatic => true,
+        }
+    }
+}
+
 /// A condition on the flags N, Z, C and V, by the name that the A64 manual and Go's assembler give it.
 #[derive(Clone, Copy, Debug, PartialEq, Eq)]
 pub enum CondCode {

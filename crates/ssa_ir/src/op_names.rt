@@ -3,6 +3,7 @@
 ghost use Rattle.std.specs.Prelude.{◌≡◌, MatchOption};
 ghost use Rattle.std.specs.Cmp.Lexicographic.{slice_cmp};
 ghost use Rattle.std.specs.Ordering.{nat_cmp};
+ghost use Rattle.ssa_ir.specs.AllOps.{op_of_name};
 ghost use Rattle.ssa_ir.specs.OpNames as spec;
 ghost use Rattle.ssa_ir.specs.OpNames.{op_name, IsNoOp, IsNoneOf, IsInNameOrder};
 
@@ -13,7 +14,8 @@ use std::cmp::Ordering;
 impl Op {
     /// The op of this name; none where no op has it.
     pub fn named(name: &[u8]) -> Option<Op>
-        ensures { MatchOption result (IsNoOp name.now) (λ op. op_name op ≡ name.now) }
+        ensures exact { MatchOption result (IsNoOp name.now) (λ op. op_name op ≡ name.now) }
+        ensures value { result ≡ op_of_name name.now }
     {
         find(&OPS, name)
     }

@@ -1,0 +1,10 @@
+pub mod Counts
+pub mod Forms
+pub mod Headers
+pub mod Lines
+pub mod NumberWords
+pub mod Numbers
+pub mod Steps
+pub mod Types
+pub mod ValueForms
+pub mod Words
