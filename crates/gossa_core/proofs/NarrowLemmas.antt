@@ -28,7 +28,7 @@ length-values_from n [] r = refl
 length-values_from n (s ∷ steps) r = omega (arith, length-values_from (suc n) steps r)
 
 -- the last value is the result
-last_value : (n : ℕ) (steps : List Step) (r : ℕ) → slice_get (values_from n steps r) (length steps) ≡ Some (result_value (n + length steps) r)
+pub last_value : (n : ℕ) (steps : List Step) (r : ℕ) → slice_get (values_from n steps r) (length steps) ≡ Some (result_value (n + length steps) r)
 last_value n [] r = ap (λ k. Some (result_value k r)) (omega arith)
 last_value n (s ∷ steps) r = last_value (suc n) steps r ∙ ap (λ k. Some (result_value k r)) (omega arith)
 

@@ -1,23 +1,28 @@
 -- What the program answers, and why.
-use Rattle.std.specs.Prelude.{◌≡◌, ◌≢◌, ℕ, ◌≤◌, ◌⊎◌, List, [], ◌∷◌, codes, length, Option, None, Some, IsSome}
+use Rattle.std.specs.Prelude.{◌≡◌, ℕ, ◌≤◌, ◌⊎◌, true, false, List, [], codes, length, map, Option, None, Some, IsSome, Ok, Err}
 use Rattle.std.specs.Io.KnownBytes.{Appends}
+use Rattle.std.specs.List.{All}
 use Rattle.gossa_base.specs.Faults.{Faulted}
 use Rattle.gossa_base.specs.Whole.{ReadsWhole, ReadsWithin, ReadsPast, AppendsPrefix}
-use Rattle.ssa_ir.specs.declared.func.Func.{Func}
 use Rattle.ssa_ir.specs.declared.func.SsaUnit.{SsaUnit}
-use Rattle.ssa_text.specs.Text.{unit_text}
+use Rattle.ssa_text.specs.CaseSplit.{has_case}
+use Rattle.ssa_text.specs.Reading.{read_text}
+use Rattle.ssa_text.specs.ReadsAs.{RefusesAs}
+use Rattle.ssa_text.specs.declared.refusal.TextRefusal.{TextRefusal}
+use Rattle.ssa_text.specs.declared.refusal.TextRefusal.TheVariants.{NoMemory as Wanting}
 use Rattle.listing.specs.SameShow.{SameShow}
 use Rattle.listing.specs.Text.{listings_text}
 use Rattle.listing.specs.declared.code.Listings.{Listings}
 use Rattle.gossa_core.specs.declared.status.Status.{Status}
 use Rattle.gossa_core.specs.declared.status.Status.TheVariants.{Done as IsDone, Refused as IsRefused, Usage as IsUsage, ReadFault as IsReadFault, WriteFault as IsWriteFault, NoMemory as IsNoMemory}
 use Rattle.gossa_core.specs.declared.status.Outcome.{Outcome}
-use Rattle.gossa_core.specs.declared.status.Outcome.TheVariants.{Done, NotBuilt, TooLong, Usage, ReadFault, WriteFault, NoMemory}
+use Rattle.gossa_core.specs.declared.status.Outcome.TheVariants.{Done, NotBuilt, TooLong, Text, Usage, ReadFault, WriteFault, NoMemory}
 use Rattle.gossa_core.specs.declared.words.Command.{Command}
 use Rattle.gossa_core.specs.declared.words.Command.TheVariants.{Compile}
 use Rattle.gossa_core.specs.Words.{command_of}
 use Rattle.gossa_core.specs.Narrow.{Narrow}
 use Rattle.gossa_core.specs.Plain.{plain_listing}
+use Rattle.gossa_core.specs.RefusalText.{refusal_line}
 
 -- what stands outside at one moment: the bytes that the source has left and those that the sink holds, where they tell
 -- them, and how many faults each has met
@@ -37,6 +42,8 @@ abbrev pub status_of : Outcome → Status
 status_of Done = IsDone
 status_of NotBuilt = IsRefused
 status_of TooLong = IsRefused
+status_of (Text Wanting) = IsNoMemory
+status_of (Text refusal) = IsRefused
 status_of Usage = IsUsage
 status_of ReadFault = IsReadFault
 status_of WriteFault = IsWriteFault
@@ -47,6 +54,7 @@ abbrev pub line_of : Outcome → List ℕ
 line_of Done = []
 line_of NotBuilt = codes "gossa: not built\n"
 line_of TooLong = codes "gossa: input too long\n"
+line_of (Text refusal) = refusal_line refusal
 line_of Usage = codes "usage: gossa compile [-regs=N] | run | step | demo SEED SIZE\n"
 line_of ReadFault = codes "gossa: read failed\n"
 line_of WriteFault = codes "gossa: write failed\n"
@@ -56,26 +64,42 @@ line_of NoMemory = codes "gossa: out of memory\n"
 abbrev pub input_limit : ℕ
 input_limit = 8388608
 
--- the listings of a unit of one function
-abbrev pub listings_of : ℕ → Func → Listings
-listings_of regs f = record { sigs = []; funcs = plain_listing regs f ∷ [] }
+-- the listings of a unit, by the plain allocation
+abbrev pub listings_of : ℕ → SsaUnit → Listings
+listings_of regs u = record { sigs = u.sigs; funcs = map (plain_listing regs) u.funcs }
 
--- the unit of one function
-abbrev pub unit_of : Func → SsaUnit
-unit_of f = record { sigs = []; funcs = f ∷ []; cases = [] }
-
--- the text is the canonical text of a unit of one narrow function, the output is the canonical text of exactly the plain
--- allocation's listing of it, and that listing shows what the unit shows
+-- the text has no case, and spells a unit of narrow functions; the output is the canonical text of exactly the plain
+-- allocation's listings of it, and these show what the unit shows
 pub record Compiles (regs : ℕ) (text output : List ℕ) : Type 0 where
-  pub func : Func
-  pub narrow : Narrow func
-  pub spelled : unit_text (unit_of func) ≡ text
-  pub listed : output ≡ listings_text (listings_of regs func)
-  pub shows : SameShow (unit_of func) (listings_of regs func)
+  pub unit : SsaUnit
+  pub whole : has_case text ≡ false
+  pub read : read_text text ≡ Ok unit
+  pub narrow : All Narrow unit.funcs
+  pub listed : output ≡ listings_text (listings_of regs unit)
+  pub shows : SameShow unit (listings_of regs unit)
 
--- the text is that of no unit of one narrow function
-abbrev pub SpellsNone : List ℕ → Type 0
-SpellsNone text = (f : Func) → Narrow f → unit_text (unit_of f) ≢ text
+-- the text has no case, and spells a unit of which not every function is narrow
+pub record SpellsOther (text : List ℕ) : Type 0 where
+  pub unit : SsaUnit
+  pub whole : has_case text ≡ false
+  pub read : read_text text ≡ Ok unit
+  pub other : ¬ All Narrow unit.funcs
+
+-- a text that isn't compiled yet: it has a case, or spells a unit of which not every function is narrow
+abbrev pub IsUnbuilt : List ℕ → Type 0
+IsUnbuilt text = (has_case text ≡ true) ⊎ SpellsOther text
+
+-- the text has no case, and this is its first fault; where the refusal is want of memory, nothing is said of faults
+pub record RefusesText (refusal : TextRefusal) (text : List ℕ) : Type 0 where
+  pub whole : has_case text ≡ false
+  pub refused : RefusesAs refusal (read_text text)
+
+-- why there are no listings of a text; want of memory alone is free
+abbrev pub Unlisted : List ℕ → Outcome → Type 0
+Unlisted text NotBuilt = IsUnbuilt text
+Unlisted text (Text refusal) = RefusesText refusal text
+Unlisted text NoMemory = Unit {0}
+Unlisted text _ = ⊥
 
 -- nothing was written
 pub record NothingWritten (before after : World) : Type 0 where
@@ -95,11 +119,19 @@ pub record Finishes (regs : ℕ) (before after : World) : Type 0 where
   pub compiled : Compiles regs text output
   pub written : Appends before.held after.held output
 
--- the whole input was read, and is the text of no narrow function
+-- the whole input was read, and isn't compiled yet
 pub record IsNotBuilt (before after : World) : Type 0 where
   pub text : List ℕ
   pub read : ReadsWhole input_limit before.left after.left text
-  pub none : SpellsNone text
+  pub unbuilt : IsUnbuilt text
+  pub unwritten : NothingWritten before after
+
+-- the whole input was read and has no case, and this is its first fault
+pub record IsRefusedText (refusal : TextRefusal) (before after : World) : Type 0 where
+  pub text : List ℕ
+  pub read : ReadsWhole input_limit before.left after.left text
+  pub whole : has_case text ≡ false
+  pub refused : read_text text ≡ Err refusal
   pub unwritten : NothingWritten before after
 
 -- byte `input_limit + 1` was read
@@ -127,11 +159,17 @@ pub record LacksMemory (before after : World) : Type 0 where
   pub read : ReadsWithin input_limit before.left after.left
   pub unwritten : NothingWritten before after
 
+-- why `compile` refuses a text
+abbrev pub TextCause : TextRefusal → World → World → Type 0
+TextCause Wanting before after = LacksMemory before after
+TextCause refusal before after = IsRefusedText refusal before after
+
 -- why `compile` answers as it does
 abbrev pub CompileCause : (regs : ℕ) → World → World → Outcome → Type 0
 CompileCause regs before after Done = Finishes regs before after
 CompileCause regs before after NotBuilt = IsNotBuilt before after
 CompileCause regs before after TooLong = IsTooLong before after
+CompileCause regs before after (Text refusal) = TextCause refusal before after
 CompileCause regs before after Usage = ⊥
 CompileCause regs before after ReadFault = MeetsReadFault before after
 CompileCause regs before after WriteFault = MeetsWriteFault regs before after
@@ -161,11 +199,11 @@ pub record Answers (words : List (List ℕ)) (before after : World) (quiet spoke
   pub cause : Cause (command_of words) before after outcome
   pub line : Tells (line_of outcome) quiet spoken
 
--- where the words are a command, nothing met a fault, and the input is known, within the limit and the text of a narrow
--- function, the program is done, or there was no memory
+-- where the words are a command, nothing met a fault, and the input is known, within the limit, without a case and the
+-- text of a unit of narrow functions, the program is done, or there was no memory
 abbrev pub IsComplete : List (List ℕ) → World → World → Status → Type 0
 IsComplete words before after status =
     IsSome (command_of words) → ¬ Faulted before.read_faults after.read_faults → ¬ Faulted before.write_faults after.write_faults
     → (text : List ℕ) → before.left ≡ Some text → length text ≤ input_limit
-    → (f : Func) → Narrow f → unit_text (unit_of f) ≡ text
+    → has_case text ≡ false → (u : SsaUnit) → read_text text ≡ Ok u → All Narrow u.funcs
     → (status ≡ IsDone) ⊎ (status ≡ IsNoMemory)

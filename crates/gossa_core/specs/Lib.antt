@@ -1,10 +1,11 @@
 pub mod Answer
 pub mod Narrow
-pub mod NarrowParts
+pub mod NarrowTest
 pub mod Numbered
 pub mod Parameters
 pub mod Places
 pub mod Plain
+pub mod RefusalText
 pub mod Row
 pub mod Status
 pub mod Words

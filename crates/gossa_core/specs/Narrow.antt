@@ -1,6 +1,5 @@
 -- The functions that are compiled so far: one block that adds constants and parameters of type int64.
-use Rattle.std.specs.Prelude.{◌≡◌, ℕ, suc, ℤ, pos, ◌+◌, ◌<◌, ◌≤◌, ◌==◌, Bool, true, false, not, ◌&&◌, IsTrue, List, [], ◌∷◌, length, replicate, None, Some, FitsSigned}
-use Rattle.std.specs.Int.{w64}
+use Rattle.std.specs.Prelude.{◌≡◌, ℕ, suc, ℤ, pos, ◌+◌, ◌<◌, ◌≤◌, ◌==◌, Bool, true, false, not, ◌&&◌, IsTrue, List, [], ◌∷◌, length, replicate, None, Some}
 use Rattle.std.specs.List.{list_any}
 use Rattle.gossa_base.specs.declared.ids.ValueId.{ValueId}
 use Rattle.ssa_ir.specs.declared.op.Width.TheVariants.{W64}
@@ -14,7 +13,6 @@ use Rattle.ssa_ir.specs.declared.func.Value.{Value}
 use Rattle.ssa_ir.specs.declared.func.Kind.TheVariants.{Ret}
 use Rattle.ssa_ir.specs.declared.func.Block.{Block}
 use Rattle.ssa_ir.specs.declared.func.Func.{Func}
-use Rattle.ssa_ir.specs.Names.{IsName}
 
 -- what a value between the first and the last makes: a parameter, a constant, or the sum of two values
 pub data Step : Type 0 where
@@ -76,11 +74,10 @@ pub record IsAbove (n v : ℕ) : Type 0 where
   pub behind_first : 2 ≤ v
   pub above : v < n
 
--- the step of value n fits a function with this many parameters: the parameter is there, the constant is a word, and
--- both summands stand above
+-- the step of value n fits a function with this many parameters: the parameter is there, and both summands stand above
 abbrev pub StepFits : (params n : ℕ) → Step → Type 0
 StepFits params n (TakeArg i) = i < params
-StepFits params n (MakeConst c) = FitsSigned w64 c
+StepFits params n (MakeConst c) = Unit {0}
 StepFits params n (AddTwo a b) = IsAbove n a × IsAbove n b
 
 -- the steps from value n on fit
@@ -109,7 +106,6 @@ pub record Narrow (f : Func) : Type 0 where
   pub params : ℕ
   pub steps : List Step
   pub returned : ℕ
-  pub name : IsName f.sig.name
   pub few_params : params ≤ 16
   pub few_values : length steps + 2 ≤ 500
   pub fit : StepsFit params 2 steps

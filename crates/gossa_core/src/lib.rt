@@ -1,8 +1,8 @@
 //! The passes joined: from the words of a command and the bytes of a unit to the bytes of its listings.
 //!
-//! [`gossa`] is the whole program but for its real streams. `compile` reads a unit's text, knows the function
-//! that it spells ([`recognize`]), places each of its values in a word of the frame ([`allocate`]), and writes
-//! the listing.
+//! [`gossa`] is the whole program but for its real streams. `compile` reads a unit's text, sees that each of its
+//! functions is one that is compiled so far ([`all_narrow`]), places each value in a word of the frame
+//! ([`allocate_all`]), and writes the listings.
 //!
 //! ```text
 //! v4 = Add64 <int64> v2 v3      MOVD 8(RSP), R0 // load v2
@@ -11,9 +11,9 @@
 //!                               MOVD R0, 24(RSP) // spill v4
 //! ```
 //!
-//! Known limits: the only command is `compile`, and a unit is one function of one block that adds parameters and
-//! constants of type int64; every other text within the limit of bytes is refused as not built, and a longer one as
-//! too long.
+//! Known limits: the only command is `compile`. It compiles functions of one block that add parameters and constants of
+//! type int64, with their values numbered in order. A text with another function, or with a case, is refused as not
+//! built, and one of too many bytes as too long; a text that spells no unit, by its first fault.
 #![tactic(auto)]
 
 pub mod laws;
@@ -21,12 +21,14 @@ mod narrow;
 mod places;
 mod plain;
 pub mod status;
+mod telling;
 pub mod top;
 pub mod words;
 
-pub use narrow::recognize;
-pub use plain::allocate;
+pub use narrow::{all_narrow, is_narrow};
+pub use plain::{allocate, allocate_all};
 pub use status::{Outcome, Status};
+pub use telling::tell;
 pub use top::gossa;
 pub use words::{Command, read_words};
 

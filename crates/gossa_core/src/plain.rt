@@ -2,20 +2,34 @@
 
 ghost use Rattle.std.specs.Prelude.{◌≡◌, ◌<◌, ◌≤◌, ◌^◌, [], ◌∷◌, ◌++◌, length, map, replicate, None, IfOk, IfSome, OnOk};
 ghost use Rattle.std.specs.Option.{option_copied};
-ghost use Rattle.std.specs.List.{flat_map};
+ghost use Rattle.std.specs.List.{All, flat_map};
 ghost use Rattle.ssa_ir.specs.FirstOrder.{first_order};
 ghost use Rattle.listing.specs.CodeFacts.{IsCode};
 ghost use Rattle.gossa_core.specs.Narrow.{Narrow};
 ghost use Rattle.gossa_core.specs.Numbered.{NumberedFrom};
 ghost use Rattle.gossa_core.specs.Parameters.{noted, noted_all, held_from};
 ghost use Rattle.gossa_core.specs.Places.{place_in};
-ghost use Rattle.gossa_core.specs.Plain.{parameter_number, spill_line, load_line, sum_lines, add_lines, value_lines, result_lines, results_of, end_lines, lines_in_order, value_named, returned_value, parameters_from, plain_listing};
+ghost use Rattle.gossa_core.specs.Plain.{parameter_number, spill_line, load_line, sum_lines, add_lines, value_lines, result_lines, end_lines, lines_in_order, value_named, returned_value, plain_listing};
 
 use crate::places::Places;
 use gossa_base::{NoMemory, Sequence, ValueId};
-use listing::{Code, Line, Listing, Note, Operands, Place, RegState};
+use listing::{Code, Line, Listing, ListingList, Note, Operands, Place, RegState};
 use ssa_ir::{Block, Func, Kind, Op, Sig, Value};
 use std::alloc::Global;
+
+/// The listings of narrow functions, in order, for a machine with this many registers.
+pub fn allocate_all(alloc: Global, funcs: &[Func], regs: u32) -> Result<ListingList, NoMemory>
+    requires narrow { All Narrow funcs.now }
+    requires many { 16 ≤ regs }
+    requires most { regs ≤ 24 }
+    ensures { IfOk result (λ listings. listings ≡ map (plain_listing regs) funcs.now) }
+{
+    let mut listings = ListingList::new(alloc);
+    for func in funcs {
+        listings.push(allocate(alloc, func, regs)?)?;
+    }
+    Ok(listings)
+}
 
 /// The listing of a narrow function by the plain allocation, for a machine with this many registers: at least 16, so
 /// that each parameter comes in one, and at most the 24 of the pool.
@@ -92,7 +106,7 @@ fn note_parameter(ids: &mut [Option<ValueId>], value: &Value)
 }
 
 // Which parameter a value is, if any.
-fn parameter_number(value: &Value) -> Option<usize>
+pub(crate) fn parameter_number(value: &Value) -> Option<usize>
     ensures { result ≡ parameter_number value.now.op value.now.aux }
 {
     match value.op {

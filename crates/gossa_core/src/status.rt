@@ -2,7 +2,9 @@
 
 ghost use Rattle.std.specs.Prelude.{◌≡◌};
 ghost use Rattle.gossa_core.specs.Status.{number_of};
-ghost use Rattle.gossa_core.specs.Answer.{status_of, line_of};
+ghost use Rattle.gossa_core.specs.Answer.{status_of};
+
+use ssa_text::TextRefusal;
 
 /// How the program ends, by the number that its process ends with.
 #[derive(Clone, Copy, Debug, PartialEq, Eq)]
@@ -42,10 +44,12 @@ impl Status {
 pub enum Outcome {
     /// All output was written.
     Done,
-    /// The input spells no function that is compiled so far.
+    /// The input has a case, or a function that isn't compiled so far.
     NotBuilt,
     /// The input has more bytes than are read.
     TooLong,
+    /// The input is no text of a unit, and this is its first fault; or there was no memory for what it spells.
+    Text(TextRefusal),
     /// The words are no command.
     Usage,
     /// The input could not be read.
@@ -64,25 +68,12 @@ impl Outcome {
         match self {
             Outcome::Done => Status::Done,
             Outcome::NotBuilt | Outcome::TooLong => Status::Refused,
+            Outcome::Text(TextRefusal::NoMemory) => Status::NoMemory,
+            Outcome::Text(_) => Status::Refused,
             Outcome::Usage => Status::Usage,
             Outcome::ReadFault => Status::ReadFault,
             Outcome::WriteFault => Status::WriteFault,
             Outcome::NoMemory => Status::NoMemory,
-        }
-    }
-
-    /// The line that goes to the error stream, ended by LF; none where all went well.
-    pub fn line(self) -> &'static [u8]
-        ensures { result.now ≡ line_of self }
-    {
-        match self {
-            Outcome::Done => b"",
-            Outcome::NotBuilt => b"gossa: not built\n",
-            Outcome::TooLong => b"gossa: input too long\n",
-            Outcome::Usage => { b"usage: gossa compile [-regs=N] | run | step | demo SEED SIZE\n" }
-            Outcome::ReadFault => b"gossa: read failed\n",
-            Outcome::WriteFault => b"gossa: write failed\n",
-            Outcome::NoMemory => b"gossa: out of memory\n",
         }
     }
 }

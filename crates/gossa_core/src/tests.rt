@@ -1,8 +1,10 @@
 // What no clause says: that calls succeed where memory is left, what listings look like, and what is told and left
 // where a stream fails.
 
+use crate::telling::tell;
 use crate::{Command, Outcome, Status, gossa, read_words};
 use gossa_base::{MemSink, MemSource, NoMemory, read_all};
+use ssa_text::{LimitKind, TextRefusal};
 use std::alloc::{AllocError, Global};
 use std::process::Abort;
 use std::test::Fail;
@@ -40,6 +42,16 @@ b1: R0=v2\n\
 MOVD R0, 8(RSP) // spill v2\n\
 MOVD 8(RSP), R0 // results\n\
 RET\n";
+
+// The same, as Go's dumps spell it.
+const DUMP: &str = "func f(int, int) int\n\
+\x20 b1: -\n\
+\x20   v1 (?) = InitMem <mem>\n\
+\x20   v2 (+3) = Arg <int> [0]\n\
+\x20   v3 (3) = Arg <int> {b} [1] (b[int])\n\
+\x20   v4 (+4) = Add64 <int> v2 v3 (s[int])\n\
+\x20   v5 (4) = MakeResult <int,mem> v4 v1\n\
+\x20   Ret v5 (+4)";
 
 // Parameters that are taken out of order and late, a constant, and a sum of one value and itself.
 const MIXED: &str = "func g(int64, int64) (int64)\n\
@@ -134,17 +146,17 @@ const TELL_FAULT: Streams<'static> = Streams {
     tell_faults: &[2],
 };
 
-const NOT_BUILT: Wanted<'static> = Wanted {
-    status: Status::Refused,
-    written: b"",
-    told: b"gossa: not built\n",
-    left: b"",
-};
-
 const TOO_LONG: Wanted<'static> = Wanted {
     status: Status::Refused,
     written: b"",
     told: b"gossa: input too long\n",
+    left: b"",
+};
+
+const LONG_LINE: Wanted<'static> = Wanted {
+    status: Status::Refused,
+    written: b"",
+    told: b"gossa: line 1: limit LineBytes\n",
     left: b"",
 };
 
@@ -209,10 +221,30 @@ fn check_usage(rt: &(impl Abort + AllocGlobal), words: &[&str]) -> Result<(), No
 }
 
 // An outcome has this status, number and line.
-fn check_outcome(rt: &impl Abort, outcome: Outcome, status: Status, number: u8, line: &[u8]) {
+fn check_outcome(
+    rt: &(impl Abort + AllocGlobal),
+    outcome: Outcome,
+    status: Status,
+    number: u8,
+    line: &str,
+) -> Result<(), NoMemory> {
+    let mut errs = MemSink::new(rt.alloc(), 100, 4096, &[])?;
+    tell(&mut errs, outcome);
     assert!(rt; outcome.status() == status);
     assert!(rt; status.number() == number);
-    assert!(rt; outcome.line() == line);
+    assert!(rt; errs.held() == line.as_bytes(), "{line}");
+    Ok(())
+}
+
+// Runs `compile` over this text, which has to be refused with this line.
+fn check_refusal(rt: &(impl Abort + AllocGlobal), text: &str, line: &str) -> Result<(), NoMemory> {
+    let wanted = Wanted {
+        status: Status::Refused,
+        written: b"",
+        told: line.as_bytes(),
+        left: b"",
+    };
+    check_run(rt, &["compile"], text.as_bytes(), SOUND, wanted)
 }
 
 // A value behind the first: a parameter while there are any, then a sum of the value before it.
@@ -254,10 +286,68 @@ fn writes_listings(rt: HostRuntime) -> Result<(), Fail> {
 }
 
 #[test]
+fn writes_what_has_no_function(rt: HostRuntime) -> Result<(), Fail> {
+    check_listing(&rt, "", "", SOUND)?;
+    check_listing(&rt, "\n // a comment\n", "", SOUND)?;
+    check_listing(&rt, "sig f(int64)", "sig f(int64)\n", SOUND)?;
+    check_listing(
+        &rt,
+        "  sig g(int, byte) unsafe.Pointer\nsig f()\n",
+        "sig g(int64, uint8) (*byte)\nsig f()\n",
+        SOUND,
+    )?;
+    Ok(())
+}
+
+#[test]
+fn writes_every_function(rt: HostRuntime) -> Result<(), Fail> {
+    let text = format!(in rt.alloc(); "sig h(bool)\n{SUM}{MIXED}")?;
+    let listing = format!(in rt.alloc(); "sig h(bool)\n{SUM_LISTING}{MIXED_LISTING}")?;
+    check_listing(&rt, text.as_str(), listing.as_str(), SOUND)?;
+    check_listing(&rt, text.as_str(), listing.as_str(), BYTE_BY_BYTE)?;
+    Ok(())
+}
+
+#[test]
+fn reads_dumps(rt: HostRuntime) -> Result<(), Fail> {
+    check_listing(&rt, DUMP, SUM_LISTING, SOUND)?;
+    Ok(())
+}
+
+#[test]
 fn refuses_what_is_not_built(rt: HostRuntime) -> Result<(), Fail> {
     let with_case = format!(in rt.alloc(); "{SAME}case f 1\nargs 7\n")?;
-    check_run(&rt, &["compile"], b"", SOUND, NOT_BUILT)?;
-    check_run(&rt, &["compile"], with_case.as_bytes(), SOUND, NOT_BUILT)?;
+    check_refusal(&rt, with_case.as_str(), "gossa: not built\n")?;
+    check_refusal(&rt, "?\n case", "gossa: not built\n")?;
+    let product = SUM.replace(rt.alloc(), "Add64", "Mul64")?;
+    check_refusal(&rt, product.as_str(), "gossa: not built\n")?;
+    let second = format!(in rt.alloc(); "{SEVEN}{product}")?;
+    check_refusal(&rt, second.as_str(), "gossa: not built\n")?;
+    Ok(())
+}
+
+#[test]
+fn tells_the_first_fault(rt: HostRuntime) -> Result<(), Fail> {
+    for (old, new, line) in [
+        ("[1]", "[1]\r", "gossa: line 5: bad byte\n"),
+        ("Ret v5", "Ret", "gossa: line 8: bad line\n"),
+        ("Ret v5\n", "", "gossa: line 7: bad line\n"),
+        ("Add64", "Hmul64", "gossa: line 6: unknown op\n"),
+        (
+            "v2 = Arg",
+            "v2000000 = Arg",
+            "gossa: line 4: number too large\n",
+        ),
+        ("v3 = Arg", "v2 = Arg", "gossa: line 5: defined twice\n"),
+        ("v2 v3", "v2 v9", "gossa: line 6: unknown reference\n"),
+    ] {
+        let text = SUM.replace(rt.alloc(), old, new)?;
+        check_refusal(&rt, text.as_str(), line)?;
+    }
+    let twice = format!(in rt.alloc(); "{SUM}{SAME}")?;
+    check_refusal(&rt, twice.as_str(), "gossa: line 9: defined twice\n")?;
+    let params = sized(rt.alloc(), 65, 70)?;
+    check_refusal(&rt, params.as_str(), "gossa: line 1: limit Params\n")?;
     Ok(())
 }
 
@@ -265,11 +355,11 @@ fn refuses_what_is_not_built(rt: HostRuntime) -> Result<(), Fail> {
 fn keeps_its_limits(rt: HostRuntime) -> Result<(), Fail> {
     for (params, values) in [(17, 500), (16, 501)] {
         let text = sized(rt.alloc(), params, values)?;
-        check_run(&rt, &["compile"], text.as_bytes(), SOUND, NOT_BUILT)?;
+        check_refusal(&rt, text.as_str(), "gossa: not built\n")?;
     }
-    let lines = vec![in rt.alloc(); b'\n'; 8_388_609]?;
-    check_run(&rt, &["compile"], lines.as_slice(), SOUND, TOO_LONG)?;
-    check_run(&rt, &["compile"], &lines.as_slice()[1..], SOUND, NOT_BUILT)?;
+    let spaces = vec![in rt.alloc(); b' '; 8_388_609]?;
+    check_run(&rt, &["compile"], spaces.as_slice(), SOUND, TOO_LONG)?;
+    check_run(&rt, &["compile"], &spaces.as_slice()[1..], SOUND, LONG_LINE)?;
     Ok(())
 }
 
@@ -319,10 +409,15 @@ fn tells_which_stream_failed(rt: HostRuntime) -> Result<(), Fail> {
     let tell = Wanted {
         status: Status::Refused,
         written: b"",
-        told: b"gossa: not built",
+        told: b"gossa: line ",
         left: b"",
     };
     check_run(&rt, &["compile"], b"func", TELL_FAULT, tell)?;
+    let not_built = Wanted {
+        told: b"gossa: not built",
+        ..tell
+    };
+    check_run(&rt, &["compile"], b"case", TELL_FAULT, not_built)?;
     check_listing(&rt, SUM, SUM_LISTING, TELL_FAULT)?;
     Ok(())
 }
@@ -337,43 +432,81 @@ fn knows_its_words(rt: HostRuntime) -> Result<(), Fail> {
 }
 
 #[test]
-fn tells_each_outcome(rt: HostRuntime) {
-    check_outcome(&rt, Outcome::Done, Status::Done, 0, b"");
-    check_outcome(
-        &rt,
-        Outcome::NotBuilt,
-        Status::Refused,
-        1,
-        b"gossa: not built\n",
-    );
-    check_outcome(
-        &rt,
-        Outcome::TooLong,
-        Status::Refused,
-        1,
-        b"gossa: input too long\n",
-    );
-    let usage = b"usage: gossa compile [-regs=N] | run | step | demo SEED SIZE\n";
-    check_outcome(&rt, Outcome::Usage, Status::Usage, 2, usage);
-    check_outcome(
-        &rt,
-        Outcome::ReadFault,
-        Status::ReadFault,
-        3,
-        b"gossa: read failed\n",
-    );
-    check_outcome(
-        &rt,
-        Outcome::WriteFault,
-        Status::WriteFault,
-        4,
-        b"gossa: write failed\n",
-    );
-    check_outcome(
-        &rt,
-        Outcome::NoMemory,
-        Status::NoMemory,
-        5,
-        b"gossa: out of memory\n",
-    );
+fn tells_each_outcome(rt: HostRuntime) -> Result<(), Fail> {
+    let usage = "usage: gossa compile [-regs=N] | run | step | demo SEED SIZE\n";
+    for (outcome, status, number, line) in [
+        (Outcome::Done, Status::Done, 0, ""),
+        (Outcome::NotBuilt, Status::Refused, 1, "gossa: not built\n"),
+        (
+            Outcome::TooLong,
+            Status::Refused,
+            1,
+            "gossa: input too long\n",
+        ),
+        (Outcome::Usage, Status::Usage, 2, usage),
+        (
+            Outcome::ReadFault,
+            Status::ReadFault,
+            3,
+            "gossa: read failed\n",
+        ),
+        (
+            Outcome::WriteFault,
+            Status::WriteFault,
+            4,
+            "gossa: write failed\n",
+        ),
+        (
+            Outcome::NoMemory,
+            Status::NoMemory,
+            5,
+            "gossa: out of memory\n",
+        ),
+        (
+            Outcome::Text(TextRefusal::NoMemory),
+            Status::NoMemory,
+            5,
+            "gossa: out of memory\n",
+        ),
+    ] {
+        check_outcome(&rt, outcome, status, number, line)?;
+    }
+    Ok(())
+}
+
+#[test]
+fn tells_each_refusal(rt: HostRuntime) -> Result<(), Fail> {
+    for (refusal, line) in [
+        (TextRefusal::BadByte(1), "gossa: line 1: bad byte\n"),
+        (TextRefusal::BadLine(20), "gossa: line 20: bad line\n"),
+        (TextRefusal::UnknownOp(300), "gossa: line 300: unknown op\n"),
+        (
+            TextRefusal::NumberTooLarge(4000),
+            "gossa: line 4000: number too large\n",
+        ),
+        (
+            TextRefusal::Duplicate(50_000),
+            "gossa: line 50000: defined twice\n",
+        ),
+        (
+            TextRefusal::UnknownRef(u32::MAX),
+            "gossa: line 4294967295: unknown reference\n",
+        ),
+    ] {
+        check_outcome(&rt, Outcome::Text(refusal), Status::Refused, 1, line)?;
+    }
+    for (kind, line) in [
+        (LimitKind::LineBytes, "gossa: line 7: limit LineBytes\n"),
+        (LimitKind::Functions, "gossa: line 7: limit Functions\n"),
+        (LimitKind::Sigs, "gossa: line 7: limit Sigs\n"),
+        (LimitKind::Values, "gossa: line 7: limit Values\n"),
+        (LimitKind::Blocks, "gossa: line 7: limit Blocks\n"),
+        (LimitKind::Params, "gossa: line 7: limit Params\n"),
+        (LimitKind::Results, "gossa: line 7: limit Results\n"),
+        (LimitKind::Args, "gossa: line 7: limit Args\n"),
+    ] {
+        let outcome = Outcome::Text(TextRefusal::Limit(kind, 7));
+        check_outcome(&rt, outcome, Status::Refused, 1, line)?;
+    }
+    Ok(())
 }

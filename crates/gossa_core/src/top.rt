@@ -1,18 +1,22 @@
 // The top call: from words and bytes to bytes and a status.
 
-ghost use Rattle.std.specs.Prelude.{◌≡◌, ◌≤◌, map, IfOk, MatchOption};
+ghost use Rattle.std.specs.Prelude.{◌≡◌, ◌≤◌, length, map, IfOk, IfErr};
 ghost use Rattle.std.specs.String.{string_bytes};
+ghost use Rattle.std.specs.List.{All};
+ghost use Rattle.gossa_core.specs.Narrow.{Narrow};
 ghost use Rattle.gossa_core.specs.Words.{command_of};
-ghost use Rattle.gossa_core.specs.Answer.{line_of, Compiles, SpellsNone, CompileCause, Cause, Tells, Answers, IsComplete};
+ghost use Rattle.listing.specs.Text.{listings_text};
+ghost use Rattle.gossa_core.specs.Answer.{listings_of, input_limit, Compiles, Unlisted, CompileCause, Cause, Answers, IsComplete};
 
-use crate::narrow::recognize;
-use crate::plain::allocate;
+use crate::narrow::all_narrow;
+use crate::plain::allocate_all;
 use crate::status::{Outcome, Status};
+use crate::telling::tell;
 use crate::words::{Command, read_words};
-use gossa_base::{
-    Bytes, Failed, NoMemory, ReadRefusal, Sequence, Sink, Source, read_all, write_all,
-};
-use listing::{ListingList, Listings, print_listing};
+use gossa_base::{Bytes, Failed, NoMemory, ReadRefusal, Sink, Source, read_all, write_all};
+use listing::{Listings, print_listing};
+use ssa_ir::SsaUnit;
+use ssa_text::{has_case, read_unit_part};
 use std::alloc::Global;
 
 /// How many bytes `compile` reads at the most.
@@ -45,15 +49,6 @@ pub fn gossa<S: Source, K: Sink, E: Sink>(
     outcome.status()
 }
 
-// The line of an outcome goes to the error stream, or a prefix of it where that stream fails.
-fn tell<E: Sink>(errs: &mut E, outcome: Outcome)
-    ensures { Tells (line_of outcome)
-        (record { told = E.held errs.old; tell_faults = E.faults errs.old })
-        (record { told = E.held errs.new; tell_faults = E.faults errs.new }) }
-{
-    let _ = write_all(errs, outcome.line());
-}
-
 // Does what the words say, and answers how it went.
 fn run<S: Source, K: Sink>(alloc: Global, words: &[String], source: &mut S, sink: &mut K) -> Outcome
     ensures { Cause (command_of (map string_bytes words.now))
@@ -83,30 +78,49 @@ fn compile<S: Source, K: Sink>(alloc: Global, regs: u32, source: &mut S, sink: &
         Err(ReadRefusal::NoMemory) => return Outcome::NoMemory,
     };
     match compile_text(alloc, text.as_slice(), regs) {
-        Ok(Some(output)) => match write_all(sink, output.as_slice()) {
+        Ok(output) => match write_all(sink, output.as_slice()) {
             Ok(()) => Outcome::Done,
             Err(Failed) => Outcome::WriteFault,
         },
-        Ok(None) => Outcome::NotBuilt,
-        Err(NoMemory) => Outcome::NoMemory,
+        Err(outcome) => outcome,
     }
 }
 
-// The listing of the function that this text spells, if it is one that is compiled so far.
-fn compile_text(alloc: Global, text: &[u8], regs: u32) -> Result<Option<Bytes>, NoMemory>
+// The listings of the unit that this text spells, or how the program ends without any.
+fn compile_text(alloc: Global, text: &[u8], regs: u32) -> Result<Bytes, Outcome>
+    requires few { length text.now ≤ input_limit }
     requires many { 16 ≤ regs }
     requires most { regs ≤ 24 }
-    ensures { IfOk result (λ output. MatchOption output (SpellsNone text.now) (λ bytes. Compiles regs text.now bytes)) }
+    ensures listed { IfOk result (λ output. Compiles regs text.now output) }
+    ensures unlisted { IfErr result (λ outcome. Unlisted text.now outcome) }
 {
-    let Some(func) = recognize(alloc, text)? else {
-        return Ok(None);
+    if has_case(text) {
+        return Err(Outcome::NotBuilt);
+    }
+    let unit = match read_unit_part(alloc, text) {
+        Ok(unit) => unit,
+        Err(refusal) => return Err(Outcome::Text(refusal)),
     };
-    let listing = allocate(alloc, &func, regs)?;
-    let mut funcs = ListingList::new(alloc);
-    funcs.push(listing)?;
+    if !all_narrow(unit.funcs.as_slice()) {
+        return Err(Outcome::NotBuilt);
+    }
+    match list_unit(alloc, unit, regs) {
+        Ok(output) => Ok(output),
+        Err(NoMemory) => Err(Outcome::NoMemory),
+    }
+}
+
+// The listings of a unit of narrow functions.
+fn list_unit(alloc: Global, unit: SsaUnit, regs: u32) -> Result<Bytes, NoMemory>
+    requires narrow { All Narrow unit.funcs }
+    requires many { 16 ≤ regs }
+    requires most { regs ≤ 24 }
+    ensures { IfOk result (λ output. output ≡ listings_text (listings_of regs unit)) }
+{
+    let funcs = allocate_all(alloc, unit.funcs.as_slice(), regs)?;
     let listings = Listings {
-        sigs: Sequence::new(alloc),
+        sigs: unit.sigs,
         funcs,
     };
-    Ok(Some(print_listing(alloc, &listings)?))
+    print_listing(alloc, &listings)
 }

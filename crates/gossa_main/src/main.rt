@@ -2,8 +2,8 @@
 //! and the process ends with the number of the status that it answers.
 #![tactic(auto)]
 
-use gossa_base::{NoMemory, StdSink, StdSource, write_all};
-use gossa_core::{Outcome, Status, gossa};
+use gossa_base::{NoMemory, StdSink, StdSource};
+use gossa_core::{Outcome, gossa, tell};
 use std::env;
 use std::io::ErrorKind;
 use std::process::ExitCode;
@@ -24,8 +24,8 @@ fn main(rt: HostRuntime) -> ExitCode {
             )
         }
         Err(NoMemory) => {
-            let _ = write_all(&mut errs, Outcome::NoMemory.line());
-            Status::NoMemory
+            tell(&mut errs, Outcome::NoMemory);
+            Outcome::NoMemory.status()
         }
     };
     ExitCode::from(status.number())

@@ -1,7 +1,9 @@
-// Texts that are recognized, and texts just beside them.
+// Functions that are compiled so far, and functions just beside them.
 
-use super::recognize;
+use super::all_narrow;
+use ssa_text::read_unit_part;
 use std::alloc::{AllocError, Global};
+use std::process::Abort;
 use std::test::Fail;
 
 const EXAMPLE: &str = "func f(int64, int64) (int64)\n\
@@ -13,12 +15,16 @@ v4 = Add64 <int64> v2 v3\n\
 v5 = MakeResult <int64,mem> v4 v1\n\
 Ret v5\n";
 
-fn is_recognized(alloc: Global, text: &str) -> bool {
-    matches!(recognize(alloc, text.as_bytes()), Ok(Some(_)))
-}
-
-fn is_refused(alloc: Global, text: &str) -> bool {
-    matches!(recognize(alloc, text.as_bytes()), Ok(None))
+// Whether all functions of this text, which has to be that of a unit, are compiled so far.
+fn is_built(rt: &(impl Abort + AllocGlobal), text: &str) -> bool {
+    assert!(rt; text.len() <= 1_000_000);
+    match read_unit_part(rt.alloc(), text.as_bytes()) {
+        Ok(unit) => all_narrow(unit.funcs.as_slice()),
+        Err(refusal) => {
+            assert!(rt; false, "{refusal:?} in {text}");
+            false
+        }
+    }
 }
 
 // A function of one parameter, whose value 2 has this line, and whose value 3 is returned.
@@ -48,38 +54,55 @@ fn sized(alloc: Global, params: u32, values: u32) -> Result<String, AllocError> 
 }
 
 #[test]
-fn reads_the_example(rt: HostRuntime) -> Result<(), Fail> {
+fn knows_the_example(rt: HostRuntime) -> Result<(), Fail> {
     let alloc = rt.alloc();
-    let found = recognize(alloc, EXAMPLE.as_bytes());
-    assert!(rt; matches!(found, Ok(Some(_))));
-    assert!(rt; is_refused(alloc, ""));
-    assert!(rt; is_refused(alloc, EXAMPLE.strip_suffix("\n").unwrap_or("")));
+    assert!(rt; is_built(&rt, EXAMPLE));
     for (old, new) in [
-        (" v2 v3\n", "  v2 v3\n"),
-        (" v2 v3\n", " v2 v3 \n"),
-        (" v2 v3\n", " v1 v3\n"),
-        (" v2 v3\n", " v2 v4\n"),
-        ("Add64", "Sub64"),
-        ("[1]", "[0]"),
-        ("[1]", "[2]"),
-        ("[1]", "[01]"),
-        ("[1]", "[+1]"),
-        ("v4 v1", "v1 v1"),
-        ("Ret v5", "Ret v4"),
-        ("b1", "b2"),
-        ("func f", "func 1"),
-        ("func f", "func "),
-        ("func f", "sig f"),
-        ("int64, int64", "int64,int64"),
+        ("v2 = Arg <int64> [0]", "v2 (+3) = Arg <int> [0] (a[int])"),
+        ("b1:", "  b1: -"),
+        ("func f", "sig g(int8) bool\n\nfunc f"),
     ] {
         let text = EXAMPLE.replace(alloc, old, new)?;
-        assert!(rt; is_refused(alloc, text.as_str()), "{old} {new}");
+        assert!(rt; is_built(&rt, text.as_str()), "{new}");
+    }
+    for (old, new) in [
+        (" v2 v3\n", " v1 v3\n"),
+        (" v2 v3\n", " v3 v1\n"),
+        (" v2 v3\n", " v2 v4\n"),
+        (" v2 v3\n", " v5 v3\n"),
+        ("Add64", "Sub64"),
+        ("Add64", "Add32"),
+        ("Add64 <int64>", "Add64 <uint64>"),
+        ("[1]", "[0]"),
+        ("[1]", "[2]"),
+        ("[1]", "[-1]"),
+        ("v4 v1", "v1 v1"),
+        ("v4 v1", "v4 v3"),
+        ("v4 v1", "v4 v3 v1"),
+        ("<int64,mem>", "<int32,mem>"),
+        ("<int64,mem>", "<int64,int64,mem>"),
+        ("Ret v5", "Ret v4"),
+        ("Ret v5", "Exit v5"),
+        ("Ret v5", "Plain -> b1"),
+        ("b1:", "b2:"),
+        ("b1:", "b1: <- b1"),
+        ("Ret v5\n", "Ret v5\nb2:\nRet v5\n"),
+        ("b1:\n", "b1:\nPlain -> b2\nb2: <- b1\n"),
+        ("int64, int64", "int64, int32"),
+        (" (int64)\n", " (int32)\n"),
+        (" (int64)\n", " (int64, int64)\n"),
+        (" (int64)\n", "\n"),
+        ("InitMem", "SB"),
+        ("<mem>", "<int64>"),
+    ] {
+        let text = EXAMPLE.replace(alloc, old, new)?;
+        assert!(rt; !is_built(&rt, text.as_str()), "{old} {new}");
     }
     Ok(())
 }
 
 #[test]
-fn reads_lines(rt: HostRuntime) -> Result<(), Fail> {
+fn knows_steps(rt: HostRuntime) -> Result<(), Fail> {
     let alloc = rt.alloc();
     for line in [
         "v2 = Arg <int64> [0]",
@@ -88,23 +111,19 @@ fn reads_lines(rt: HostRuntime) -> Result<(), Fail> {
         "v2 = Const64 <int64> [9223372036854775807]",
     ] {
         let text = with_line(alloc, line)?;
-        assert!(rt; is_recognized(alloc, text.as_str()), "{line}");
+        assert!(rt; is_built(&rt, text.as_str()), "{line}");
     }
     for line in [
-        "v2 = Const64 <int64> [-0]",
-        "v2 = Const64 <int64> [00]",
-        "v2 = Const64 <int64> []",
-        "v2 = Const64 <int64> [9223372036854775808]",
-        "v2 = Const64 <int64> [-9223372036854775809]",
         "v2 = Const32 <int64> [1]",
         "v2 = Const64 <int32> [1]",
-        "v3 = Const64 <int64> [1]",
         "v2 = Arg <int64> [1]",
-        "v02 = Arg <int64> [0]",
+        "v5 = Arg <int64> [0]",
+        "v2 = InitMem <mem>",
+        "v2 = Copy <int64> v1",
         "",
     ] {
         let text = with_line(alloc, line)?;
-        assert!(rt; is_refused(alloc, text.as_str()), "{line}");
+        assert!(rt; !is_built(&rt, text.as_str()), "{line}");
     }
     Ok(())
 }
@@ -114,21 +133,34 @@ fn counts_parameters_and_values(rt: HostRuntime) -> Result<(), Fail> {
     let alloc = rt.alloc();
     for (params, values) in [(0, 3), (1, 4), (16, 3), (0, 500), (16, 500)] {
         let text = sized(alloc, params, values)?;
-        assert!(rt; is_recognized(alloc, text.as_str()), "{params} {values}");
+        assert!(rt; is_built(&rt, text.as_str()), "{params} {values}");
     }
     for (params, values) in [(17, 3), (0, 501), (0, 502)] {
         let text = sized(alloc, params, values)?;
-        assert!(rt; is_refused(alloc, text.as_str()), "{params} {values}");
+        assert!(rt; !is_built(&rt, text.as_str()), "{params} {values}");
     }
     Ok(())
 }
 
 #[test]
-fn takes_parameters_in_any_order(rt: HostRuntime) -> Result<(), Fail> {
-    let alloc = rt.alloc();
+fn takes_parameters_in_any_order(rt: HostRuntime) {
     let text = "func f(int64, int64) (int64)\nb1:\nv1 = InitMem <mem>\n\
 v2 = Arg <int64> [1]\nv3 = Add64 <int64> v2 v2\nv4 = Arg <int64> [0]\n\
 v5 = MakeResult <int64,mem> v3 v1\nRet v5\n";
-    assert!(rt; is_recognized(alloc, text));
+    assert!(rt; is_built(&rt, text));
+}
+
+#[test]
+fn judges_every_function(rt: HostRuntime) -> Result<(), Fail> {
+    let alloc = rt.alloc();
+    assert!(rt; is_built(&rt, ""));
+    let other = EXAMPLE.replace(alloc, "func f", "func g")?;
+    let both = format!(in alloc; "{EXAMPLE}{other}")?;
+    assert!(rt; is_built(&rt, both.as_str()));
+    let wrong = other.replace(alloc, "Add64", "Mul64")?;
+    let last_wrong = format!(in alloc; "{EXAMPLE}{wrong}")?;
+    assert!(rt; !is_built(&rt, last_wrong.as_str()));
+    let first_wrong = format!(in alloc; "{wrong}{EXAMPLE}")?;
+    assert!(rt; !is_built(&rt, first_wrong.as_str()));
     Ok(())
 }

@@ -1,7 +1,7 @@
 use Rattle.std.proofs.Common.{map}
 use Rattle.std.specs.String.{string_bytes}
 use Rattle.gossa_core.specs.Answer.{World}
-use Rattle.gossa_core.proofs.CompileLemmas.{complete}
+use Rattle.gossa_core.proofs.CompleteLemmas.{complete}
 use Rattle.gossa_core.proofs.top.gossa.Goals as goal
 
 pub returns-clause-complete : goal.returns-clause-complete

@@ -1,0 +1,15 @@
+use Rattle.std.proofs.Common.{◌==◌, ℕ, ap, ◌∙◌}
+use Rattle.std.specs.List.{list_any}
+use Rattle.gossa_base.specs.declared.ids.BlockId.{BlockId}
+use Rattle.ssa_text.specs.Reading.{Read, block_ids}
+use Rattle.ssa_text.proofs.ReaderLemmas.{list_any_map}
+use Rattle.ssa_text.proofs.reader.Reader.has_block.Goals as goal
+
+-- the table has the numbers of the blocks
+pub returns : goal.returns
+returns c =
+    let number : BlockId → ℕ = λ id. id.n in
+    c.contains.ensures
+    ∙ ap (list_any (λ m. m == c.args.n)) c.self.invariant.2
+    ∙ list_any_map number (λ m. m == c.args.n) (block_ids c.self.inside.func)
+    ∙ ap (λ (r : Read). list_any (λ (id : BlockId). id.n == c.args.n) (block_ids r.func)) c.self.view_is
