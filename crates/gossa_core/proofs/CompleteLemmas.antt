@@ -1,14 +1,12 @@
 -- Where nothing failed and the input is the text of narrow functions, the causes leave two answers.
-use Rattle.std.proofs.Common.{◌≡◌, ℕ, ◌≤◌, false, List, ◌++◌, length, Option, None, Some, IsSome, Result, Ok, Err, sym, ap, subst, ◌∙◌, ◌⊎◌, inl, inr, append-nil, length-append, arith}
+use Rattle.std.proofs.Common.{◌≡◌, ℕ, ◌≤◌, List, ◌++◌, length, Option, None, Some, IsSome, Result, Ok, Err, sym, ap, subst, ◌∙◌, ◌⊎◌, inl, inr, append-nil, length-append, arith}
 use Rattle.std.specs.Io.KnownBytes.{Consumes, IsAtEnd}
 use Rattle.std.specs.List.{All}
-use Rattle.std.proofs.lemmas.Bool.{false≢true}
 use Rattle.gossa_base.specs.Faults.{Faulted}
 use Rattle.ssa_ir.specs.declared.func.SsaUnit.{SsaUnit}
-use Rattle.ssa_text.specs.CaseSplit.{has_case}
-use Rattle.ssa_text.specs.Reading.{read_text}
-use Rattle.ssa_text.specs.declared.refusal.TextRefusal.{TextRefusal}
-use Rattle.ssa_text.specs.declared.refusal.TextRefusal.TheVariants.{NoMemory as Wanting}
+use Rattle.ssa_text.specs.UnitReading.{read_unit}
+use Rattle.ssa_lines.specs.declared.refusal.TextRefusal.{TextRefusal}
+use Rattle.ssa_lines.specs.declared.refusal.TextRefusal.TheVariants.{NoMemory as Wanting}
 use Rattle.gossa_core.specs.declared.status.Status.{Status}
 use Rattle.gossa_core.specs.declared.status.Status.TheVariants.{Done as IsDone, NoMemory as IsNoMemory}
 use Rattle.gossa_core.specs.declared.status.Outcome.{Outcome}
@@ -35,11 +33,10 @@ read_within (Some xs) None text bytes e p = absurd p
 read_within (Some xs) (Some ys) text bytes e p =
     let same : xs ≡ text = cc in omega (arith, ap length same, ap length p, length-append bytes ys)
 
--- the text of a unit of narrow functions, without a case
+-- the text of a unit of narrow functions
 pub record SpellsNarrow (text : List ℕ) : Type 0 where
-  pub whole : has_case text ≡ false
   pub unit : SsaUnit
-  pub read : read_text text ≡ Ok unit
+  pub read : read_unit text ≡ Ok unit
   pub narrow : All Narrow unit.funcs
 
 -- a text spells one unit, or none
@@ -52,10 +49,9 @@ unrefused spelled u refusal p q = let both : Ok u ≡ Err refusal = sym p ∙ q 
 
 -- such a text is built
 built : (text : List ℕ) → SpellsNarrow text → IsUnbuilt text → ⊥
-built text h (inl cases) = false≢true (sym h.whole ∙ cases)
-built text h (inr other) =
+built text h other =
     other.other (subst (λ u. All Narrow u.funcs)
-    (one_unit (read_text text) h.unit other.unit h.read other.read) h.narrow)
+    (one_unit (read_unit text) h.unit other.unit h.read other.read) h.narrow)
 
 -- and isn't refused, but for want of memory
 complete_by_refusal : (refusal : TextRefusal) (before after : World) (status : Status)
@@ -65,7 +61,7 @@ complete_by_refusal : (refusal : TextRefusal) (before after : World) (status : S
 complete_by_refusal Wanting before after status e c text left h = inr e
 complete_by_refusal refusal before after status e c text left h =
     let same = whole_is before.left after.left text c.text left c.read.all c.read.end in
-    absurd (unrefused (read_text text) h.unit refusal h.read (sym (ap read_text same) ∙ c.refused))
+    absurd (unrefused (read_unit text) h.unit refusal h.read (sym (ap read_unit same) ∙ c.refused))
 
 complete_by_outcome : (regs : ℕ) (before after : World) (status : Status) (outcome : Outcome)
     → status ≡ status_of outcome
@@ -101,6 +97,6 @@ complete_by_command (Some (Compile regs)) before after status outcome e c some n
 pub complete : (words : List (List ℕ)) (before after : World) (status : Status) (outcome : Outcome)
     → status ≡ status_of outcome
     → Cause (command_of words) before after outcome → IsComplete words before after status
-complete words before after status outcome e cause some no_read no_write text left few whole u read narrow =
+complete words before after status outcome e cause some no_read no_write text left few u read narrow =
     complete_by_command (command_of words) before after status outcome e cause some no_read no_write text left few
-    (record { whole = whole; unit = u; read = read; narrow = narrow })
+    (record { unit = u; read = read; narrow = narrow })

@@ -1,9 +1,10 @@
 -- Narrow functions, seen as values in order.
-use Rattle.std.proofs.Common.{◌≡◌, ℕ, suc, ◌+◌, ◌^◌, ◌<◌, ◌≤◌, List, [], ◌∷◌, length, get_or, Some, slice_get, refl, sym, ap, ◌∙◌, subst, arith}
+use Rattle.std.proofs.Common.{◌≡◌, ℕ, suc, ◌+◌, ◌^◌, ◌<◌, ◌≤◌, List, [], ◌∷◌, ◌++◌, length, get_or, take, Some, slice_get, refl, sym, ap, ◌∙◌, subst, arith}
 use Rattle.std.specs.Option.{IfSome}
 use Rattle.std.proofs.lemmas.List.{length-replicate}
 use Rattle.ssa_ir.specs.declared.types.Scalar.{Scalar}
 use Rattle.ssa_ir.specs.declared.types.Scalar.TheVariants.{I64}
+use Rattle.ssa_ir.specs.declared.func.Value.{Value}
 use Rattle.ssa_ir.specs.declared.func.Block.{Block}
 use Rattle.ssa_ir.specs.declared.func.Func.{Func}
 use Rattle.gossa_core.specs.Narrow.{Step, TakeArg, MakeConst, AddTwo, vid, step_value, init_value, result_value, values_from, block_of, Narrow}
@@ -61,3 +62,24 @@ few_params f h = omega (arith, ap (λ g. length g.sig.params) h.made, length-rep
 
 pub one_block : (f : Func) (h : Narrow f) → f.blocks ≡ block_of h.steps h.returned ∷ []
 one_block f h = ap (λ g. g.blocks) h.made
+
+-- the values of steps, from value n on
+abbrev pub step_values : ℕ → List Step → List Value
+step_values n [] = []
+step_values n (s ∷ steps) = step_value n s ∷ step_values (suc n) steps
+
+-- the values of steps, and then the result
+pub values_from_is : (n k : ℕ) (steps : List Step) (r : ℕ) → k ≡ n + length steps
+    → values_from n steps r ≡ step_values n steps ++ result_value k r ∷ []
+values_from_is n k [] r at = ap (λ m. result_value m r ∷ []) (omega arith)
+values_from_is n k (s ∷ steps) r at =
+    ap (λ values. step_value n s ∷ values) (values_from_is (suc n) k steps r (omega arith))
+
+pub length-step_values : (n : ℕ) (steps : List Step) → length (step_values n steps) ≡ length steps
+length-step_values n [] = refl
+length-step_values n (s ∷ steps) = ap suc (length-step_values (suc n) steps)
+
+-- the front of the values is the steps
+pub front_is : (n : ℕ) (steps : List Step) (r : ℕ) → take (length steps) (values_from n steps r) ≡ step_values n steps
+front_is n [] r = refl
+front_is n (s ∷ steps) r = ap (λ l. step_value n s ∷ l) (front_is (suc n) steps r)

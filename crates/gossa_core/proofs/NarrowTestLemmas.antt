@@ -1,5 +1,5 @@
 -- A function passes the test exactly where it is narrow.
-use Rattle.std.proofs.Common.{◌≡◌, ◌==◌, ℕ, zero, suc, ◌+◌, ◌-◌, ◌≤◌, Bool, true, false, not, ◌&&◌, leb, List, [], ◌∷◌, ◌++◌, length, get_or, take, replicate, Option, None, Some, slice_get, refl, sym, ap, subst, ◌∙◌, arith}
+use Rattle.std.proofs.Common.{◌≡◌, ◌==◌, ℕ, zero, suc, ◌+◌, ◌-◌, ◌≤◌, true, false, not, ◌&&◌, leb, List, [], ◌∷◌, ◌++◌, length, get_or, take, replicate, Option, None, Some, slice_get, refl, sym, ap, subst, ◌∙◌, arith}
 use Rattle.std.specs.List.{list_all}
 use Rattle.std.proofs.lemmas.Bool.{eqb-true, false≢true}
 use Rattle.std.proofs.lemmas.List.{length-append, length-replicate}
@@ -13,12 +13,12 @@ use Rattle.ssa_ir.specs.declared.func.Kind.{Kind}
 use Rattle.ssa_ir.specs.declared.func.Kind.TheVariants.{Ret}
 use Rattle.ssa_ir.specs.declared.func.Block.{Block}
 use Rattle.ssa_ir.specs.declared.func.Func.{Func}
-use Rattle.gossa_core.specs.Narrow.{Step, step_value, init_value, result_value, values_from, narrow_block, block_of, narrow_sig, func_of, vid, IsAbove, StepsFit, takes_once, Narrow}
+use Rattle.gossa_core.specs.Narrow.{Step, init_value, result_value, values_from, narrow_block, block_of, narrow_sig, func_of, vid, IsAbove, StepsFit, takes_once, Narrow}
 use Rattle.gossa_core.specs.NarrowTest.{is_int64, is_one_int64, is_init, are_steps, take_new, no_flags, is_last, is_result, are_body, are_narrow, is_ret, is_control, is_whole, is_narrow_block, is_narrow_sig, has_narrow_block, is_narrow}
-use Rattle.gossa_core.proofs.NarrowLemmas.{length-values_from, last_value}
+use Rattle.gossa_core.proofs.NarrowLemmas.{length-values_from, last_value, step_values, values_from_is, length-step_values, front_is}
 use Rattle.gossa_core.proofs.NumberedLemmas.{same_number}
-use Rattle.gossa_core.proofs.OnceLemmas.{TakeNone, step_values, and_both, both_and, once_from_test, test_from_once}
-use Rattle.gossa_core.proofs.PartTestLemmas.{one_int64_is, all_int64_are, all_int64, empty_is, within_is, is_within}
+use Rattle.gossa_core.proofs.OnceLemmas.{TakeNone, once_from_test, test_from_once}
+use Rattle.gossa_core.proofs.PartTestLemmas.{and_both, both_and, is_false, one_int64_is, all_int64_are, all_int64, empty_is, within_is, is_within}
 use Rattle.gossa_core.proofs.ValueTestLemmas.{init_is, steps_are, are_step_values, result_is, is_result_value}
 
 -- the steps and the result of a narrow function's values
@@ -29,17 +29,6 @@ pub record IsBodyOf (params : ℕ) (values : List Value) : Type 0 where
   pub once : takes_once steps ≡ true
   pub result : IsAbove (length steps + 2) returned
   pub are : values ≡ values_from 2 steps returned
-
--- the values of steps, and then the result
-values_from_is : (n k : ℕ) (steps : List Step) (r : ℕ) → k ≡ n + length steps
-    → values_from n steps r ≡ step_values n steps ++ result_value k r ∷ []
-values_from_is n k [] r at = ap (λ m. result_value m r ∷ []) (omega arith)
-values_from_is n k (s ∷ steps) r at =
-    ap (λ values. step_value n s ∷ values) (values_from_is (suc n) k steps r (omega arith))
-
-length-step_values : (n : ℕ) (steps : List Step) → length (step_values n steps) ≡ length steps
-length-step_values n [] = refl
-length-step_values n (s ∷ steps) = ap suc (length-step_values (suc n) steps)
 
 -- a list, cut in front of its last item
 cut_last : (values : List Value) (k : ℕ) (v : Value) → length values ≡ suc k → slice_get values k ≡ Some v
@@ -84,11 +73,6 @@ body_is params values few e =
     let others = and_both (are_steps params 2 front) (take_new no_flags front) parts.1 in
     body_cut params values last few refl parts.0 others.0 others.1
 
--- the front of the values is the steps
-front_is : (n : ℕ) (steps : List Step) (r : ℕ) → take (length steps) (values_from n steps r) ≡ step_values n steps
-front_is n [] r = refl
-front_is n (s ∷ steps) r = ap (λ l. step_value n s ∷ l) (front_is (suc n) steps r)
-
 no_flag : (n i : ℕ) → get_or (replicate n false) i false ≡ false
 no_flag zero i = refl
 no_flag (suc n) zero = refl
@@ -124,10 +108,6 @@ control_is : (n : ℕ) (o : Option ValueId) → is_control n o ≡ true → o �
 control_is n None e = cc
 control_is n (Some id) e = ap (λ k. Some (vid k)) (eqb-true id.0 n e)
 
-not_split : (b : Bool) → not b ≡ true → b ≡ false
-not_split true e = cc
-not_split false e = refl
-
 whole_is : (b : Block) → is_whole b ≡ true → b ≡ narrow_block (length b.values) b.values
 whole_is b e =
     let ends = is_ret b.kind && is_control (length b.values) b.control in
@@ -137,7 +117,7 @@ whole_is b e =
     let third = and_both (length b.preds == 0) ((length b.succs == 0) && ends) second.1 in
     let fourth = and_both (length b.succs == 0) ends third.1 in
     let fifth = and_both (is_ret b.kind) (is_control (length b.values) b.control) fourth.1 in
-    let split : b.id.split ≡ false = not_split b.id.split first.0 in
+    let split : b.id.split ≡ false = is_false b.id.split first.0 in
     let number : b.id.n ≡ 1 = eqb-true b.id.n 1 second.0 in
     λ i. record {
       id = record { split = split i; n = number i };

@@ -1,33 +1,17 @@
 -- Steps of which no two take the same parameter, by flags of the parameters that were taken.
-use Rattle.std.proofs.Common.{◌≡◌, ◌==◌, ℕ, suc, ◌<◌, ◌≤◌, Bool, true, false, not, ◌&&◌, ◌||◌, List, [], ◌∷◌, length, get_or, set, refl, sym, ap, ◌∙◌, get_or-set_same, get_or-set_other, arith}
+use Rattle.std.proofs.Common.{◌≡◌, ◌==◌, ℕ, suc, ◌<◌, ◌≤◌, Bool, true, false, not, ◌||◌, List, [], ◌∷◌, length, get_or, set, refl, sym, ap, ◌∙◌, get_or-set_same, get_or-set_other, arith}
 use Rattle.std.specs.List.{list_any}
 use Rattle.std.proofs.lemmas.Bool.{false≢true}
 use Rattle.std.proofs.lemmas.Bool.Decides.{Decides-eqb}
 use Rattle.std.proofs.lemmas.List.{length-set}
-use Rattle.ssa_ir.specs.declared.func.Value.{Value}
-use Rattle.gossa_core.specs.Narrow.{Step, TakeArg, MakeConst, AddTwo, step_value, StepsFit, takes, takes_once}
+use Rattle.gossa_core.specs.Narrow.{Step, TakeArg, MakeConst, AddTwo, StepsFit, takes, takes_once}
 use Rattle.gossa_core.specs.NarrowTest.{take_new}
-
--- the values of steps, from value n on
-abbrev pub step_values : ℕ → List Step → List Value
-step_values n [] = []
-step_values n (s ∷ steps) = step_value n s ∷ step_values (suc n) steps
-
-pub and_both : (a b : Bool) → (a && b) ≡ true → (a ≡ true) × (b ≡ true)
-and_both true b h = (refl, h)
-and_both false b h = cc
-
-pub both_and : (a b : Bool) → a ≡ true → b ≡ true → (a && b) ≡ true
-both_and true b h i = i
-both_and false b h i = cc
+use Rattle.gossa_core.proofs.NarrowLemmas.{step_values}
+use Rattle.gossa_core.proofs.PartTestLemmas.{and_both, both_and, is_false}
 
 or_right : (a b : Bool) → (a || b) ≡ false → b ≡ false
 or_right true b h = cc
 or_right false b h = h
-
-none_of : (b : Bool) → not b ≡ true → b ≡ false
-none_of true h = cc
-none_of false h = refl
 
 -- no step takes a parameter that has a flag
 abbrev pub TakeNone : List Bool → List Step → Type 0
@@ -55,7 +39,7 @@ later_take flags i steps new none j has = go (j == i) refl
   where
     go : (same : Bool) → (j == i) ≡ same → list_any (takes j) steps ≡ false
     go true same =
-        ap (λ k. list_any (takes k) steps) ((Decides-eqb j i).0 same) ∙ none_of (list_any (takes i) steps) new
+        ap (λ k. list_any (takes k) steps) ((Decides-eqb j i).0 same) ∙ is_false (list_any (takes i) steps) new
     go false apart =
         let other : j ≡ i → ⊥ = λ e. false≢true (sym apart ∙ (Decides-eqb j i).1 e) in
         or_right (j == i) (list_any (takes j) steps)
@@ -88,7 +72,7 @@ once_from_test params n flags (TakeArg i ∷ steps) few many fit new =
     let low : i < length flags = omega (arith, many, fit.0) in
     let alone : list_any (takes i) steps ≡ false = later.1 i (get_or-set_same flags i true false low) in (
       both_and (not (list_any (takes i) steps)) (takes_once steps) (ap not alone) later.0,
-      first_takes flags i steps (none_of (get_or flags i false) parts.0) later.1,
+      first_takes flags i steps (is_false (get_or flags i false) parts.0) later.1,
     )
 
 -- and the other way round

@@ -1,5 +1,5 @@
 -- The test of a narrow function: what its smallest parts are that pass, types, ops, names and numbers.
-use Rattle.std.proofs.Common.{◌≡◌, ◌==◌, ℕ, ℤ, pos, zero, suc, ◌<◌, ◌≤◌, true, leb, ltb, List, [], ◌∷◌, length, replicate, Option, None, Some, is_none, refl, ap, ◌∙◌, arith}
+use Rattle.std.proofs.Common.{◌≡◌, ◌==◌, ℕ, ℤ, pos, zero, suc, ◌<◌, ◌≤◌, Bool, true, false, not, ◌&&◌, leb, ltb, List, [], ◌∷◌, length, replicate, Option, None, Some, is_none, refl, ap, ◌∙◌, arith}
 use Rattle.std.specs.List.{list_all}
 use Rattle.std.specs.Ordering.{int_eq}
 use Rattle.std.proofs.lemmas.Bool.{eqb-true}
@@ -11,8 +11,21 @@ use Rattle.ssa_ir.specs.declared.types.Scalar.TheVariants.{I64}
 use Rattle.ssa_ir.specs.declared.types.Ty.{Ty}
 use Rattle.ssa_ir.specs.declared.types.Ty.TheVariants.{One, Mem, Tuple}
 use Rattle.gossa_core.specs.NarrowTest.{is_int64, is_one_int64, is_word, is_memory, is_word_and_memory, is_init_mem, is_make_result}
-use Rattle.gossa_core.proofs.OnceLemmas.{and_both}
 
+-- tests that are put together
+pub and_both : (a b : Bool) → (a && b) ≡ true → (a ≡ true) × (b ≡ true)
+and_both true b h = (refl, h)
+and_both false b h = cc
+
+pub both_and : (a b : Bool) → a ≡ true → b ≡ true → (a && b) ≡ true
+both_and true b h i = i
+both_and false b h i = cc
+
+pub is_false : (b : Bool) → not b ≡ true → b ≡ false
+is_false true h = cc
+is_false false h = refl
+
+-- types
 int64_is : (t : Scalar) → is_int64 t ≡ true → t ≡ I64
 int64_is I64 e = refl
 int64_is _ e = cc

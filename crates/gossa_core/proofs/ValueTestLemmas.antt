@@ -14,8 +14,8 @@ use Rattle.ssa_ir.specs.declared.func.Value.{Value}
 use Rattle.gossa_core.specs.Narrow.{Step, TakeArg, MakeConst, AddTwo, vid, plain_value, step_value, init_value, result_value, IsAbove, StepFits, StepsFit}
 use Rattle.gossa_core.specs.NarrowTest.{is_word, is_memory, is_word_and_memory, is_bare, is_init_mem, is_init, stands_above, are_summands, op_fits, is_step, are_steps, is_make_result, are_results, is_result}
 use Rattle.gossa_core.proofs.NumberedLemmas.{same_number}
-use Rattle.gossa_core.proofs.OnceLemmas.{step_values, and_both, both_and}
-use Rattle.gossa_core.proofs.PartTestLemmas.{word_is, memory_is, word_and_memory_is, init_mem_is, make_result_is, none_is, empty_is, zero_is, low_is, is_low, is_within}
+use Rattle.gossa_core.proofs.NarrowLemmas.{step_values}
+use Rattle.gossa_core.proofs.PartTestLemmas.{and_both, both_and, word_is, memory_is, word_and_memory_is, init_mem_is, make_result_is, none_is, empty_is, zero_is, low_is, is_low, is_within}
 
 -- what a value without symbol and element type is, by its parts
 pub record HasNumber (n : ℕ) (v : Value) : Type 0 where

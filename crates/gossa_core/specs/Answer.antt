@@ -1,15 +1,16 @@
 -- What the program answers, and why.
-use Rattle.std.specs.Prelude.{◌≡◌, ℕ, ◌≤◌, ◌⊎◌, true, false, List, [], codes, length, map, Option, None, Some, IsSome, Ok, Err}
+use Rattle.std.specs.Prelude.{◌≡◌, ℕ, ◌≤◌, ◌⊎◌, List, [], ◌++◌, codes, length, map, Option, None, Some, IsSome, Ok, Err}
 use Rattle.std.specs.Io.KnownBytes.{Appends}
 use Rattle.std.specs.List.{All}
 use Rattle.gossa_base.specs.Faults.{Faulted}
 use Rattle.gossa_base.specs.Whole.{ReadsWhole, ReadsWithin, ReadsPast, AppendsPrefix}
 use Rattle.ssa_ir.specs.declared.func.SsaUnit.{SsaUnit}
-use Rattle.ssa_text.specs.CaseSplit.{has_case}
-use Rattle.ssa_text.specs.Reading.{read_text}
-use Rattle.ssa_text.specs.ReadsAs.{RefusesAs}
-use Rattle.ssa_text.specs.declared.refusal.TextRefusal.{TextRefusal}
-use Rattle.ssa_text.specs.declared.refusal.TextRefusal.TheVariants.{NoMemory as Wanting}
+use Rattle.case_text.specs.CaseText.{cases_text}
+use Rattle.ssa_text.specs.Text.{func_names}
+use Rattle.ssa_text.specs.UnitReading.{read_unit}
+use Rattle.ssa_lines.specs.ReadsAs.{RefusesAs}
+use Rattle.ssa_lines.specs.declared.refusal.TextRefusal.{TextRefusal}
+use Rattle.ssa_lines.specs.declared.refusal.TextRefusal.TheVariants.{NoMemory as Wanting}
 use Rattle.listing.specs.SameShow.{SameShow}
 use Rattle.listing.specs.Text.{listings_text}
 use Rattle.listing.specs.declared.code.Listings.{Listings}
@@ -68,36 +69,29 @@ input_limit = 8388608
 abbrev pub listings_of : ℕ → SsaUnit → Listings
 listings_of regs u = record { sigs = u.sigs; funcs = map (plain_listing regs) u.funcs }
 
--- the text has no case, and spells a unit of narrow functions; the output is the canonical text of exactly the plain
--- allocation's listings of it, and these show what the unit shows
+-- what is written for a unit: the canonical text of its listings, and behind it that of its cases
+abbrev pub output_of : (regs : ℕ) → SsaUnit → List ℕ
+output_of regs u = listings_text (listings_of regs u) ++ cases_text (func_names u.funcs) u.cases
+
+-- the text spells a unit of narrow functions; the output is exactly the canonical text of the plain allocation's listings of
+-- it, with its cases behind them, and the listings show what the unit shows
 pub record Compiles (regs : ℕ) (text output : List ℕ) : Type 0 where
   pub unit : SsaUnit
-  pub whole : has_case text ≡ false
-  pub read : read_text text ≡ Ok unit
+  pub read : read_unit text ≡ Ok unit
   pub narrow : All Narrow unit.funcs
-  pub listed : output ≡ listings_text (listings_of regs unit)
+  pub listed : output ≡ output_of regs unit
   pub shows : SameShow unit (listings_of regs unit)
 
--- the text has no case, and spells a unit of which not every function is narrow
-pub record SpellsOther (text : List ℕ) : Type 0 where
+-- a text that isn't compiled yet: it spells a unit of which not every function is narrow
+pub record IsUnbuilt (text : List ℕ) : Type 0 where
   pub unit : SsaUnit
-  pub whole : has_case text ≡ false
-  pub read : read_text text ≡ Ok unit
+  pub read : read_unit text ≡ Ok unit
   pub other : ¬ All Narrow unit.funcs
-
--- a text that isn't compiled yet: it has a case, or spells a unit of which not every function is narrow
-abbrev pub IsUnbuilt : List ℕ → Type 0
-IsUnbuilt text = (has_case text ≡ true) ⊎ SpellsOther text
-
--- the text has no case, and this is its first fault; where the refusal is want of memory, nothing is said of faults
-pub record RefusesText (refusal : TextRefusal) (text : List ℕ) : Type 0 where
-  pub whole : has_case text ≡ false
-  pub refused : RefusesAs refusal (read_text text)
 
 -- why there are no listings of a text; want of memory alone is free
 abbrev pub Unlisted : List ℕ → Outcome → Type 0
 Unlisted text NotBuilt = IsUnbuilt text
-Unlisted text (Text refusal) = RefusesText refusal text
+Unlisted text (Text refusal) = RefusesAs refusal (read_unit text)
 Unlisted text NoMemory = Unit {0}
 Unlisted text _ = ⊥
 
@@ -126,12 +120,11 @@ pub record IsNotBuilt (before after : World) : Type 0 where
   pub unbuilt : IsUnbuilt text
   pub unwritten : NothingWritten before after
 
--- the whole input was read and has no case, and this is its first fault
+-- the whole input was read, and this is its first fault
 pub record IsRefusedText (refusal : TextRefusal) (before after : World) : Type 0 where
   pub text : List ℕ
   pub read : ReadsWhole input_limit before.left after.left text
-  pub whole : has_case text ≡ false
-  pub refused : read_text text ≡ Err refusal
+  pub refused : read_unit text ≡ Err refusal
   pub unwritten : NothingWritten before after
 
 -- byte `input_limit + 1` was read
@@ -199,11 +192,11 @@ pub record Answers (words : List (List ℕ)) (before after : World) (quiet spoke
   pub cause : Cause (command_of words) before after outcome
   pub line : Tells (line_of outcome) quiet spoken
 
--- where the words are a command, nothing met a fault, and the input is known, within the limit, without a case and the
--- text of a unit of narrow functions, the program is done, or there was no memory
+-- where the words are a command, nothing met a fault, and the input is known, within the limit and the text of a unit of
+-- narrow functions, the program is done, or there was no memory
 abbrev pub IsComplete : List (List ℕ) → World → World → Status → Type 0
 IsComplete words before after status =
     IsSome (command_of words) → ¬ Faulted before.read_faults after.read_faults → ¬ Faulted before.write_faults after.write_faults
     → (text : List ℕ) → before.left ≡ Some text → length text ≤ input_limit
-    → has_case text ≡ false → (u : SsaUnit) → read_text text ≡ Ok u → All Narrow u.funcs
+    → (u : SsaUnit) → read_unit text ≡ Ok u → All Narrow u.funcs
     → (status ≡ IsDone) ⊎ (status ≡ IsNoMemory)

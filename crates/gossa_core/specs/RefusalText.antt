@@ -1,9 +1,9 @@
 -- The lines that tell why a text is refused.
 use Rattle.std.specs.Prelude.{ℕ, List, ◌++◌, codes, decimal}
-use Rattle.ssa_text.specs.declared.refusal.LimitKind.{LimitKind}
-use Rattle.ssa_text.specs.declared.refusal.LimitKind.TheVariants.{LineBytes, Functions, Sigs, Values, Blocks, Params, Results, Args}
-use Rattle.ssa_text.specs.declared.refusal.TextRefusal.{TextRefusal}
-use Rattle.ssa_text.specs.declared.refusal.TextRefusal.TheVariants.{BadByte, BadLine, UnknownOp, NumberTooLarge, Duplicate, UnknownRef, Limit, NoMemory}
+use Rattle.ssa_lines.specs.declared.refusal.LimitKind.{LimitKind}
+use Rattle.ssa_lines.specs.declared.refusal.LimitKind.TheVariants.{LineBytes, Functions, Sigs, Values, Blocks, Params, Results, Args, Cases, Bound, Replies, MemBytes, JunkWords}
+use Rattle.ssa_lines.specs.declared.refusal.TextRefusal.{TextRefusal}
+use Rattle.ssa_lines.specs.declared.refusal.TextRefusal.TheVariants.{BadByte, BadLine, UnknownOp, NumberTooLarge, Duplicate, UnknownRef, Limit, NoMemory}
 
 -- what is wrong where a limit is passed
 abbrev pub limit_text : LimitKind → List ℕ
@@ -15,6 +15,11 @@ limit_text Blocks = codes "limit Blocks"
 limit_text Params = codes "limit Params"
 limit_text Results = codes "limit Results"
 limit_text Args = codes "limit Args"
+limit_text Cases = codes "limit Cases"
+limit_text Bound = codes "limit Bound"
+limit_text Replies = codes "limit Replies"
+limit_text MemBytes = codes "limit MemBytes"
+limit_text JunkWords = codes "limit JunkWords"
 
 -- the line of what is wrong with a line of the input, by the number of that line
 abbrev pub fault_line : (line : ℕ) → (fault : List ℕ) → List ℕ

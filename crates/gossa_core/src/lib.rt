@@ -2,7 +2,7 @@
 //!
 //! [`gossa`] is the whole program but for its real streams. `compile` reads a unit's text, sees that each of its
 //! functions is one that is compiled so far ([`all_narrow`]), places each value in a word of the frame
-//! ([`allocate_all`]), and writes the listings.
+//! ([`allocate_all`]), and writes the listings, with the cases behind them.
 //!
 //! ```text
 //! v4 = Add64 <int64> v2 v3      MOVD 8(RSP), R0 // load v2
@@ -12,8 +12,8 @@
 //! ```
 //!
 //! Known limits: the only command is `compile`. It compiles functions of one block that add parameters and constants of
-//! type int64, with their values numbered in order. A text with another function, or with a case, is refused as not
-//! built, and one of too many bytes as too long; a text that spells no unit, by its first fault.
+//! type int64, with their values numbered in order. A text with another function is refused as not built, and one of too
+//! many bytes as too long; a text that spells no unit, by its first fault.
 #![tactic(auto)]
 
 pub mod laws;

@@ -58,12 +58,14 @@ fn is_narrow_sig(sig: &Sig) -> bool
         && is_one_int64(sig.results.as_slice())
 }
 
+// Whether these types are all int64.
 fn are_int64(types: &[Scalar]) -> bool
     ensures { result ≡ list_all is_int64 types.now }
 {
     types.iter().all(|scalar| is_int64(*scalar))
 }
 
+// Whether this is one type, int64.
 fn is_one_int64(types: &[Scalar]) -> bool
     ensures { result ≡ is_one_int64 types.now }
 {
@@ -79,6 +81,7 @@ fn is_int64(scalar: Scalar) -> bool
     matches!(scalar, Scalar::I64)
 }
 
+// Whether a function with so many parameters has one block, that of a narrow function.
 fn has_narrow_block(blocks: &[Block], params: usize) -> bool
     ensures { result ≡ has_narrow_block params blocks.now }
 {
@@ -109,6 +112,7 @@ fn is_whole(block: &Block) -> bool
         && is_control(block.control, block.values.len())
 }
 
+// Whether the control of a block is value n.
 fn is_control(control: Option<ValueId>, n: usize) -> bool
     ensures { result ≡ is_control n control }
 {
@@ -140,7 +144,7 @@ fn are_body(values: &[Value], params: usize) -> bool
     }
 }
 
-// v1, the memory at the entry.
+// Whether a value is v1, the memory at the entry.
 fn is_init(value: &Value) -> bool
     ensures { result ≡ is_init value.now }
 {
@@ -189,6 +193,7 @@ fn is_step(value: &Value, n: usize, params: usize) -> bool
     is_bare(value, n) && is_word(&value.ty) && op_fits(value, n, params)
 }
 
+// Whether a type is int64.
 fn is_word(ty: &Ty) -> bool
     ensures { result ≡ is_word ty.now }
 {
@@ -211,6 +216,7 @@ fn op_fits(value: &Value, n: usize, params: usize) -> bool
     }
 }
 
+// Whether a value takes a parameter, one of so many.
 fn is_there(number: Option<usize>, params: usize) -> bool
     ensures { result ≡ is_there params number }
 {
@@ -220,6 +226,7 @@ fn is_there(number: Option<usize>, params: usize) -> bool
     }
 }
 
+// Whether these are two values that value n may add.
 fn are_summands(args: &[ValueId], n: usize) -> bool
     ensures { result ≡ are_summands n args.now }
 {
@@ -260,7 +267,7 @@ fn set_flag(flags: &mut [bool], number: Option<usize>) -> bool
     }
 }
 
-// Value n, the last: one result, and the memory.
+// Whether a value is value n, the last: one result, and the memory.
 fn is_result(value: &Value, n: usize) -> bool
     ensures { result ≡ is_result n value.now }
 {
@@ -277,6 +284,7 @@ fn is_make_result(op: Op) -> bool
     matches!(op, Op::MakeResult)
 }
 
+// Whether a type is int64,mem.
 fn is_word_and_memory(ty: &Ty) -> bool
     ensures { result ≡ is_word_and_memory ty.now }
 {
@@ -286,6 +294,7 @@ fn is_word_and_memory(ty: &Ty) -> bool
     }
 }
 
+// Whether these are a value above value n, and the memory at the entry.
 fn are_results(args: &[ValueId], n: usize) -> bool
     ensures { result ≡ are_results n args.now }
 {

@@ -44,7 +44,7 @@ impl Status {
 pub enum Outcome {
     /// All output was written.
     Done,
-    /// The input has a case, or a function that isn't compiled so far.
+    /// The input has a function that isn't compiled so far.
     NotBuilt,
     /// The input has more bytes than are read.
     TooLong,

@@ -74,6 +74,11 @@ fn limit_text(kind: LimitKind) -> &'static [u8]
         LimitKind::Params => b"limit Params",
         LimitKind::Results => b"limit Results",
         LimitKind::Args => b"limit Args",
+        LimitKind::Cases => b"limit Cases",
+        LimitKind::Bound => b"limit Bound",
+        LimitKind::Replies => b"limit Replies",
+        LimitKind::MemBytes => b"limit MemBytes",
+        LimitKind::JunkWords => b"limit JunkWords",
     }
 }
 

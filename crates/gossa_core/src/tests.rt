@@ -309,6 +309,17 @@ fn writes_every_function(rt: HostRuntime) -> Result<(), Fail> {
 }
 
 #[test]
+fn writes_cases_behind_listings(rt: HostRuntime) -> Result<(), Fail> {
+    let text = format!(in rt.alloc(); "{SAME}case f 1\nargs 7\n")?;
+    let listing = format!(in rt.alloc(); "{SAME_LISTING}case f 1\nargs 0x7\n")?;
+    check_listing(&rt, text.as_str(), listing.as_str(), SOUND)?;
+    check_refusal(&rt, "?\n case", "gossa: line 1: bad line\n")?;
+    check_refusal(&rt, "case f 1", "gossa: line 1: unknown reference\n")?;
+    check_refusal(&rt, "case f 1000001", "gossa: line 1: limit Bound\n")?;
+    Ok(())
+}
+
+#[test]
 fn reads_dumps(rt: HostRuntime) -> Result<(), Fail> {
     check_listing(&rt, DUMP, SUM_LISTING, SOUND)?;
     Ok(())
@@ -316,9 +327,6 @@ fn reads_dumps(rt: HostRuntime) -> Result<(), Fail> {
 
 #[test]
 fn refuses_what_is_not_built(rt: HostRuntime) -> Result<(), Fail> {
-    let with_case = format!(in rt.alloc(); "{SAME}case f 1\nargs 7\n")?;
-    check_refusal(&rt, with_case.as_str(), "gossa: not built\n")?;
-    check_refusal(&rt, "?\n case", "gossa: not built\n")?;
     let product = SUM.replace(rt.alloc(), "Add64", "Mul64")?;
     check_refusal(&rt, product.as_str(), "gossa: not built\n")?;
     let second = format!(in rt.alloc(); "{SEVEN}{product}")?;
@@ -417,7 +425,7 @@ fn tells_which_stream_failed(rt: HostRuntime) -> Result<(), Fail> {
         told: b"gossa: not built",
         ..tell
     };
-    check_run(&rt, &["compile"], b"case", TELL_FAULT, not_built)?;
+    check_run(&rt, &["compile"], b"func f()", TELL_FAULT, not_built)?;
     check_listing(&rt, SUM, SUM_LISTING, TELL_FAULT)?;
     Ok(())
 }
@@ -507,6 +515,73 @@ fn tells_each_refusal(rt: HostRuntime) -> Result<(), Fail> {
     ] {
         let outcome = Outcome::Text(TextRefusal::Limit(kind, 7));
         check_outcome(&rt, outcome, Status::Refused, 1, line)?;
+    }
+    Ok(())
+}
+
+// A sum over a slice whose index is checked, with the marks of a dump and three cases.
+const MARKED: &str = "sig runtime.panicIndex(int64, int64)\n\
+func main.sum(*int64, int, int) int\n\
+  b1:\n\
+    v1 (?) = InitMem <mem>\n\
+    v2 (3) = Arg <*int64> [0] (p[*int64])\n\
+    v3 (3) = Arg <int> [1] (len[int])\n\
+    v4 (3) = Arg <int> [2] (n[int])\n\
+    v5 (?) = Const64 <int> [0]\n\
+    v6 (?) = Const64 <int> [1]\n\
+    v20 (?) = Const64 <uint64> [3]\n\
+    Plain → b2\n\
+  b2: ← b1 b4\n\
+    v7 (5) = Phi <int> v5 v15 (i[int])\n\
+    v8 (5) = Phi <int> v5 v14 (s[int])\n\
+    v9 (+5) = Less64 <bool> v7 v4\n\
+    If v9 → b3 b5 (likely) (5)\n\
+  b3: ← b2\n\
+    v10 (6) = IsInBounds <bool> v7 v3\n\
+    If v10 → b4 b6 (likely) (6)\n\
+  b4: ← b3\n\
+    v11 (6) = Lsh64x64 <int> [false] v7 v20\n\
+    v12 (6) = AddPtr <*int64> v2 v11\n\
+    v13 (6) = Load <int> v12 v1\n\
+    v14 (+6) = Add64 <int> v8 v13 (s[int])\n\
+    v15 (5) = Add64 <int> v7 v6 (i[int])\n\
+    Plain → b2 (5)\n\
+  b5: ← b2\n\
+    v16 (8) = MakeResult <int,mem> v8 v1\n\
+    Ret v16 (8)\n\
+  b6: ← b3\n\
+    v17 (6) = StaticLECall <mem> {AuxCall{runtime.panicIndex}} [16] v7 v3 v1\n\
+    v18 (6) = SelectN <mem> [0] v17\n\
+    Exit v18 (6)\n\
+case main.sum 100\n\
+args 0x1000 2 2\n\
+mem 0x1000 03000000000000000400000000000000\n\
+case main.sum 100\n\
+args 0x1000 2 0\n\
+case main.sum 100\n\
+args 0x1000 2 3\n\
+reply\n";
+
+#[test]
+fn leaves_nothing_of_cut_texts(rt: HostRuntime) -> Result<(), Fail> {
+    let text = MARKED.as_bytes();
+    for end in 0..=text.len() {
+        check_cut(&rt, &text[..end])?;
+    }
+    Ok(())
+}
+
+// Runs `compile` over a text that may be cut: it is done, or refused with nothing written.
+fn check_cut(rt: &(impl Abort + AllocGlobal), text: &[u8]) -> Result<(), NoMemory> {
+    let alloc = rt.alloc();
+    let words = owned(alloc, &["compile"])?;
+    let mut source = MemSource::new(alloc, text, 4096, &[])?;
+    let mut sink = MemSink::new(alloc, 2000, 4096, &[])?;
+    let mut errs = MemSink::new(alloc, 100, 4096, &[])?;
+    match gossa(alloc, words.as_slice(), &mut source, &mut sink, &mut errs) {
+        Status::Done => assert!(rt; errs.held().is_empty()),
+        Status::Refused => assert!(rt; sink.held().is_empty()),
+        _ => assert!(rt; false, "another status"),
     }
     Ok(())
 }

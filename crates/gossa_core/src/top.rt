@@ -5,18 +5,19 @@ ghost use Rattle.std.specs.String.{string_bytes};
 ghost use Rattle.std.specs.List.{All};
 ghost use Rattle.gossa_core.specs.Narrow.{Narrow};
 ghost use Rattle.gossa_core.specs.Words.{command_of};
-ghost use Rattle.listing.specs.Text.{listings_text};
-ghost use Rattle.gossa_core.specs.Answer.{listings_of, input_limit, Compiles, Unlisted, CompileCause, Cause, Answers, IsComplete};
+ghost use Rattle.gossa_core.specs.Answer.{output_of, input_limit, Compiles, Unlisted, CompileCause, Cause, Answers, IsComplete};
 
 use crate::narrow::all_narrow;
 use crate::plain::allocate_all;
 use crate::status::{Outcome, Status};
 use crate::telling::tell;
 use crate::words::{Command, read_words};
-use gossa_base::{Bytes, Failed, NoMemory, ReadRefusal, Sink, Source, read_all, write_all};
+use gossa_base::{
+    Bytes, Failed, NoMemory, ReadRefusal, Sequence, Sink, Source, put, read_all, write_all,
+};
 use listing::{Listings, print_listing};
 use ssa_ir::SsaUnit;
-use ssa_text::{has_case, read_unit_part};
+use ssa_text::{print_unit_cases, read_unit};
 use std::alloc::Global;
 
 /// How many bytes `compile` reads at the most.
@@ -94,10 +95,7 @@ fn compile_text(alloc: Global, text: &[u8], regs: u32) -> Result<Bytes, Outcome>
     ensures listed { IfOk result (λ output. Compiles regs text.now output) }
     ensures unlisted { IfErr result (λ outcome. Unlisted text.now outcome) }
 {
-    if has_case(text) {
-        return Err(Outcome::NotBuilt);
-    }
-    let unit = match read_unit_part(alloc, text) {
+    let unit = match read_unit(alloc, text) {
         Ok(unit) => unit,
         Err(refusal) => return Err(Outcome::Text(refusal)),
     };
@@ -110,17 +108,21 @@ fn compile_text(alloc: Global, text: &[u8], regs: u32) -> Result<Bytes, Outcome>
     }
 }
 
-// The listings of a unit of narrow functions.
+// The listings of a unit of narrow functions, and behind them its cases.
 fn list_unit(alloc: Global, unit: SsaUnit, regs: u32) -> Result<Bytes, NoMemory>
     requires narrow { All Narrow unit.funcs }
     requires many { 16 ≤ regs }
     requires most { regs ≤ 24 }
-    ensures { IfOk result (λ output. output ≡ listings_text (listings_of regs unit)) }
+    ensures { IfOk result (λ output. output ≡ output_of regs unit) }
 {
     let funcs = allocate_all(alloc, unit.funcs.as_slice(), regs)?;
     let listings = Listings {
         sigs: unit.sigs,
         funcs,
     };
-    print_listing(alloc, &listings)
+    let listed = print_listing(alloc, &listings)?;
+    let mut text = Vec::new(alloc);
+    put(&mut text, listed.as_slice())?;
+    print_unit_cases(&mut text, unit.funcs.as_slice(), unit.cases.as_slice())?;
+    Ok(Sequence::from_vec(text))
 }

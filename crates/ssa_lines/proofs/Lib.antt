@@ -1,7 +1,17 @@
 pub mod ArgLemmas
+pub mod FormFacts
 pub mod FormLemmas
+pub mod GrammarLemmas
 pub mod HeaderLemmas
+pub mod IntegerTexts
+pub mod LimitLemmas
+pub mod LineBytes
 pub mod LineLemmas
+pub mod NumberFactsLemmas
 pub mod NumberLemmas
+pub mod NumberTexts
+pub mod RefusalLemmas
+pub mod TableLemmas
 pub mod TypeLemmas
 pub mod WordLemmas
+pub mod WordTexts

@@ -10,7 +10,7 @@ abbrev pub HasNoNewline : List ℕ → Type 0
 HasNoNewline line = All (λ b. is_newline b ≡ false) line
 
 -- the first of several parts stays
-first_stays : (part : List ℕ) (parts : List (List ℕ)) → 0 < length parts →
+pub first_stays : (part : List ℕ) (parts : List (List ℕ)) → 0 < length parts →
     without_empty_last (part ∷ parts) ≡ part ∷ without_empty_last parts
 first_stays part [] some = absurd (omega arith)
 first_stays [] (other ∷ parts) some = refl

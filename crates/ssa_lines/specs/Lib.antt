@@ -1,10 +1,13 @@
 pub mod Counts
 pub mod Forms
 pub mod Headers
+pub mod Limits
 pub mod Lines
 pub mod NumberWords
 pub mod Numbers
+pub mod ReadsAs
 pub mod Steps
+pub mod Tables
 pub mod Types
 pub mod ValueForms
 pub mod Words

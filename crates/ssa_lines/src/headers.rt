@@ -42,8 +42,8 @@ pub fn read_signature(alloc: Global, words: &mut Words) -> Result<Option<Sig>, N
     }))
 }
 
-// Whether these bytes are the name of a function.
-pub(crate) fn is_name(bytes: &[u8]) -> bool
+/// Whether these bytes are a name: 1 to 100 letters, digits and `_ . / $`, the first a letter or `_`.
+pub fn is_name(bytes: &[u8]) -> bool
     ensures { result ≡ is_name bytes.now }
 {
     has_name_bytes(bytes) && bytes.len() <= MAX_NAME_BYTES

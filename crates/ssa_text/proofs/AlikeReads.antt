@@ -14,7 +14,7 @@ use Rattle.ssa_text.specs.declared.partial.Mention.{Mention}
 use Rattle.ssa_text.specs.Reading.{Read, read_of, mention, mentioned, has_named, unknown_in, unknown_line, control_mention, behind}
 use Rattle.ssa_text.proofs.FormTests.{Passes}
 use Rattle.ssa_text.proofs.ListLemmas.{found_by_test}
-use Rattle.ssa_text.proofs.ReaderLemmas.{list_any_map}
+use Rattle.ssa_lines.proofs.TableLemmas.{list_any_map}
 
 -- what was read, without all that has numbers of lines
 abbrev pub bare : Read → Read

@@ -22,7 +22,7 @@ use Rattle.ssa_lines.specs.Types.{scalar_of}
 use Rattle.ssa_lines.specs.Words.{without_last}
 use Rattle.ssa_lines.specs.ValueForms.{Extras, checked_name, call_name, name_inside, dropped, word_of_truth, is_arg, is_static_call, aux_of_number, aux_of_truth, call_number, aux_of_name, aux_of_elem, aux_of_mark, aux_of_none, aux_by}
 use Rattle.ssa_text.proofs.HeaderFactsLemmas.{name_tested}
-use Rattle.ssa_text.proofs.GrammarLemmas.{then_shown, then_any, either_shown}
+use Rattle.ssa_lines.proofs.GrammarLemmas.{then_shown, then_any, either_shown}
 
 signed_small : (l : ℕ) (half all : Bool) → l < 2 ^ 64 → nat_lt l (2 ^ 63) ≡ half → nat_lt l (2 ^ 64) ≡ all
     → FitsSigned w64 (cond half (pos l) (cond all (negsuc (2 ^ 64 - suc l)) (pos (l - 2 ^ 64))))

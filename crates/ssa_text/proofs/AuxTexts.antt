@@ -27,10 +27,10 @@ use Rattle.ssa_lines.specs.ValueForms.{bracket_inside, call_name, checked_name, 
 use Rattle.ssa_lines.specs.Words.{words_of, opens}
 use Rattle.ssa_lines.proofs.WordLemmas.{EndsWord, space_in_front}
 use Rattle.ssa_text.specs.Text.{bool_word, brackets_text, braces_text}
-use Rattle.ssa_text.proofs.IntegerTexts.{integer_read, signed_is_word}
-use Rattle.ssa_text.proofs.LineBytes.{IsPlainWord, plain_word_in_front}
+use Rattle.ssa_lines.proofs.IntegerTexts.{integer_read, signed_is_word}
+use Rattle.ssa_lines.proofs.LineBytes.{IsPlainWord, plain_word_in_front}
 use Rattle.ssa_text.proofs.TypeTexts.{scalar_read, scalar_is_word}
-use Rattle.ssa_text.proofs.WordTexts.{is_short_word, short_word, longer_word, IsPlainText, text_of_word, known_text, text_append, between_read, between_is_word, name_bytes, name_is_word, is_name-name}
+use Rattle.ssa_lines.proofs.WordTexts.{is_short_word, short_word, longer_word, IsPlainText, text_of_word, known_text, text_append, between_read, between_is_word, name_bytes, name_is_word, is_name-name}
 
 -- a name does not begin with AuxCall{, since it has no brace
 no_call : (name : List ℕ) → list_all is_name_byte name ≡ true → starts_with nat_eq name (codes "AuxCall{") ≡ false

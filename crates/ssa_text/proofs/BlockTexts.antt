@@ -21,10 +21,10 @@ use Rattle.ssa_lines.specs.declared.forms.Form.{Form}
 use Rattle.ssa_lines.specs.declared.forms.Form.TheVariants.{Block as BlockForm, Control as ControlForm}
 use Rattle.ssa_lines.proofs.WordLemmas.{EndsWord, space_in_front, without_last_of}
 use Rattle.ssa_text.specs.Text.{preds_text, end_text}
-use Rattle.ssa_text.proofs.FormFacts.{IsValueNumber, IsTextBlock, BlockFacts, ControlFacts, Spells}
-use Rattle.ssa_text.proofs.LineBytes.{AllPlain, AllPlain-nil, AllPlain-from_test, AllPlain-append, IsPlainWord, plain_word_from_tests, plain_word_append, plain_word_in_front, words_of-front_led, spaced, words_of-spaced, AllPlain-spaced, length-spaced}
-use Rattle.ssa_text.proofs.WordTexts.{spells_text}
-use Rattle.ssa_text.proofs.NumberTexts.{value_is_word, block_is_word, text_block_is_word, number_word-value, number_word-block, number_word-text_block, blocks_are_words, AllPlain-blocks, length-blocks, block_numbers, numbers_ahead-blocks, blocks_of-blocks}
+use Rattle.ssa_lines.proofs.FormFacts.{IsValueNumber, IsTextBlock, BlockFacts, ControlFacts, Spells}
+use Rattle.ssa_lines.proofs.LineBytes.{AllPlain, AllPlain-nil, AllPlain-from_test, AllPlain-append, IsPlainWord, plain_word_from_tests, plain_word_append, plain_word_in_front, words_of-front_led, spaced, words_of-spaced, AllPlain-spaced, length-spaced}
+use Rattle.ssa_lines.proofs.WordTexts.{spells_text}
+use Rattle.ssa_lines.proofs.NumberTexts.{value_is_word, block_is_word, text_block_is_word, number_word-value, number_word-block, number_word-text_block, blocks_are_words, AllPlain-blocks, length-blocks, block_numbers, numbers_ahead-blocks, blocks_of-blocks}
 
 -- the beginning of a block
 

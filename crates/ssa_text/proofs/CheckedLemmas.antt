@@ -3,10 +3,10 @@ use Rattle.std.proofs.Common.{◌≡◌, ℕ, Bool, false, true, List, Option, N
 use Rattle.ssa_lines.specs.Forms.{form_of}
 use Rattle.ssa_lines.specs.Words.{words_of}
 use Rattle.ssa_lines.specs.declared.forms.Form.{Form}
-use Rattle.ssa_text.specs.declared.refusal.TextRefusal.{TextRefusal}
-use Rattle.ssa_text.specs.ReadsAs.{RefusesAs}
+use Rattle.ssa_lines.specs.declared.refusal.TextRefusal.{TextRefusal}
+use Rattle.ssa_lines.specs.ReadsAs.{RefusesAs}
 use Rattle.ssa_text.specs.Reading.{Read, fault_of, in_place, is_twice, behind, then_read, form_or_fault, checked_form, read_line}
-use Rattle.ssa_text.proofs.RefusalLemmas.{refuses_so}
+use Rattle.ssa_lines.proofs.RefusalLemmas.{refuses_so}
 use Rattle.ssa_text.proofs.FormTests.{Passes, passes, form_has_no_fault}
 
 -- a fault of a line is what is read behind it

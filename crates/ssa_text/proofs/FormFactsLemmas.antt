@@ -25,10 +25,10 @@ use Rattle.ssa_lines.specs.NumberWords.{number_word, numbers_ahead}
 use Rattle.ssa_lines.specs.Steps.{only_where}
 use Rattle.ssa_lines.specs.ValueForms.{value_line}
 use Rattle.ssa_lines.specs.Words.{is_same, is_marked, without_last}
-use Rattle.ssa_text.proofs.FormFacts.{IsValueNumber, BlockFacts, ControlFacts, FormFacts}
+use Rattle.ssa_lines.proofs.FormFacts.{IsValueNumber, BlockFacts, ControlFacts, FormFacts}
 use Rattle.ssa_text.proofs.HeaderFactsLemmas.{sig_named}
-use Rattle.ssa_text.proofs.NumberFactsLemmas.{InRange, IfFits, word_in_range, numbers_in_range, TextBlocks, blocks_fit}
-use Rattle.ssa_text.proofs.GrammarLemmas.{then_shown, then_any, either_shown}
+use Rattle.ssa_lines.proofs.NumberFactsLemmas.{InRange, IfFits, word_in_range, numbers_in_range, TextBlocks, blocks_fit}
+use Rattle.ssa_lines.proofs.GrammarLemmas.{then_shown, then_any, either_shown}
 use Rattle.ssa_text.proofs.ValueFactsLemmas.{LineFacts, value_shown}
 
 -- what is known of the beginning and of the end of a block

@@ -5,12 +5,12 @@ use Rattle.ssa_lines.specs.Forms.{form_of}
 use Rattle.ssa_lines.specs.Lines.{is_allowed}
 use Rattle.ssa_lines.specs.Words.{words_of}
 use Rattle.ssa_lines.specs.declared.forms.Form.{Form}
-use Rattle.ssa_text.specs.declared.refusal.LimitKind.{LimitKind}
-use Rattle.ssa_text.specs.declared.refusal.LimitKind.TheVariants.{LineBytes}
-use Rattle.ssa_text.specs.declared.refusal.TextRefusal.{TextRefusal}
-use Rattle.ssa_text.specs.declared.refusal.TextRefusal.TheVariants.{BadByte, BadLine, UnknownOp, NumberTooLarge, Duplicate, Limit}
+use Rattle.ssa_lines.specs.declared.refusal.LimitKind.{LimitKind}
+use Rattle.ssa_lines.specs.declared.refusal.LimitKind.TheVariants.{LineBytes}
+use Rattle.ssa_lines.specs.declared.refusal.TextRefusal.{TextRefusal}
+use Rattle.ssa_lines.specs.declared.refusal.TextRefusal.TheVariants.{BadByte, BadLine, UnknownOp, NumberTooLarge, Duplicate, Limit}
 use Rattle.ssa_text.specs.Reading.{Read, in_place, leaves_open, is_unknown, is_too_large, is_twice, limit_passed, limit_of, fault_of_form, fault_of}
-use Rattle.ssa_text.proofs.FormFacts.{Spells}
+use Rattle.ssa_lines.proofs.FormFacts.{Spells}
 
 -- the tests of a form, by what they answer, and what is passed of the limits
 pub record AllPass (placed unknown large twice : Bool) (limit : Option LimitKind) : Type 0 where
@@ -58,12 +58,22 @@ no_form_fault : (r : Read) (line : ℕ) (last : Bool) (form : Form) → Passes r
 no_form_fault r line last form h e i =
     first_fault line (h.in_its_place i) (e i) (h.is_known i) (h.is_small i) (h.is_new i) (h.is_within i)
 
+-- the first fault of a line, by what the tests of its bytes answer
+abbrev first_of_line : ℕ → (long allowed : Bool) → Option TextRefusal → Option TextRefusal
+first_of_line line long allowed fault =
+    if long then Some (Limit LineBytes line) else if not allowed then Some (BadByte line) else fault
+
 within : (line : ℕ) (long allowed : Bool) (fault : Option TextRefusal) →
-    (if long then Some (Limit LineBytes line) else if not allowed then Some (BadByte line) else fault) ≡ None →
-    fault ≡ None
+    first_of_line line long allowed fault ≡ None → fault ≡ None
 within line true allowed fault h = cc
 within line false false fault h = cc
 within line false true fault h = h
+
+with_other : (line : ℕ) (long allowed : Bool) (fault other : Option TextRefusal) → (fault ≡ None → other ≡ None) →
+    first_of_line line long allowed fault ≡ None → first_of_line line long allowed other ≡ None
+with_other line true allowed fault other none h = cc
+with_other line false false fault other none h = cc
+with_other line false true fault other none h = none h
 
 -- a line without a fault has a form without one
 pub form_has_no_fault : (r : Read) (line : ℕ) (last : Bool) (bytes : List ℕ) → fault_of r line last bytes ≡ None →
@@ -71,6 +81,14 @@ pub form_has_no_fault : (r : Read) (line : ℕ) (last : Bool) (bytes : List ℕ)
 form_has_no_fault r line last bytes h =
     let fault : Option TextRefusal = fault_of_form r line last (form_of (words_of bytes)) in
     within line (nat_lt 4096 (length bytes)) (is_allowed bytes) fault h
+
+-- a line without a fault has none where other lines stand behind it
+pub none_with_more : (r : Read) (line : ℕ) (last : Bool) (bytes : List ℕ) → fault_of r line last bytes ≡ None →
+    fault_of r line false bytes ≡ None
+none_with_more r line last bytes h =
+    let form : Form = form_of (words_of bytes) in
+    with_other line (nat_lt 4096 (length bytes)) (is_allowed bytes) (fault_of_form r line last form)
+    (fault_of_form r line false form) (λ e. no_form_fault r line false form (passes r line last form e).0 refl) h
 
 -- a line that spells a form that passes has no fault
 pub line_has_no_fault : (r : Read) (line : ℕ) (last : Bool) (form : Form) (bytes : List ℕ) →

@@ -11,15 +11,17 @@ use Rattle.ssa_lines.specs.declared.forms.Form.TheVariants.{Blank, Case, Sig as 
 use Rattle.ssa_text.specs.Text.{preds_text, end_text, type_text, aux_text}
 use Rattle.ssa_text.specs.Reading.{Read}
 use Rattle.ssa_text.proofs.BlockTexts.{spells_block, spells_control}
-use Rattle.ssa_text.proofs.FormFacts.{FormFacts, Spells}
+use Rattle.ssa_lines.proofs.FormFacts.{FormFacts, Spells}
 use Rattle.ssa_text.proofs.FormTests.{Passes}
 use Rattle.ssa_text.proofs.HeaderTexts.{spells_sig, spells_func}
 use Rattle.ssa_text.proofs.LimitFacts.{form_limits}
 use Rattle.ssa_text.proofs.ValueTexts.{spells_value}
 
-abbrev pub is_blank : Form → Bool
-is_blank Blank = true
-is_blank _ = false
+-- the lines of a unit's signatures and functions leave out such a line: a blank one, and the first one of a case
+abbrev pub is_left_out : Form → Bool
+is_left_out Blank = true
+is_left_out Case = true
+is_left_out _ = false
 
 -- the line of a form, without its LF; one that no text is read from has none
 abbrev pub line_of : Form → List ℕ
@@ -33,10 +35,10 @@ line_of (ControlForm (Fits c)) = end_text c.kind c.control c.succs
 line_of _ = []
 
 -- the line of a form that may stand behind what was read spells that form
-pub spells_form : (r : Read) (form : Form) → Passes r form → FormFacts form → is_blank form ≡ false →
+pub spells_form : (r : Read) (form : Form) → Passes r form → FormFacts form → is_left_out form ≡ false →
     Spells (line_of form) form
 spells_form r Blank h facts full = absurd (true≢false full)
-spells_form r Case h facts full = absurd (true≢false (sym h.in_its_place))
+spells_form r Case h facts full = absurd (true≢false full)
 spells_form r Bad h facts full = absurd (true≢false (sym h.in_its_place))
 spells_form r (SigForm s) h facts full = spells_sig s facts (form_limits r (SigForm s) h.is_within)
 spells_form r (FuncForm s) h facts full = spells_func s facts (form_limits r (FuncForm s) h.is_within)

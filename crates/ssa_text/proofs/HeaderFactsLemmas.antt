@@ -6,7 +6,7 @@ use Rattle.ssa_ir.specs.declared.types.Sig.{Sig}
 use Rattle.ssa_ir.specs.Names.{IsName, has_name_bytes}
 use Rattle.ssa_lines.specs.Headers.{is_name, is_open, name_before, group_ahead, results_of, signature_of}
 use Rattle.ssa_lines.specs.Steps.{only_where}
-use Rattle.ssa_text.proofs.GrammarLemmas.{then_shown, then_any, only_where_true}
+use Rattle.ssa_lines.proofs.GrammarLemmas.{then_shown, then_any, only_where_true}
 
 -- a word that passes the test of names is a name
 pub name_tested : (word : List ℕ) → is_name word ≡ true → IsName word

@@ -17,9 +17,9 @@ use Rattle.ssa_lines.specs.Lines.{is_space}
 use Rattle.ssa_lines.specs.Steps.{◌>>=◌, only_where}
 use Rattle.ssa_lines.specs.Words.{words_of}
 use Rattle.ssa_lines.proofs.WordLemmas.{HasNoSpace, EndsWord, space_in_front}
-use Rattle.ssa_text.proofs.FormFacts.{Spells}
+use Rattle.ssa_lines.proofs.FormFacts.{Spells}
 use Rattle.ssa_text.proofs.TypeTexts.{first_word, more_words, first_is_word, inside_text, last_inside, more_inside, group_words, group_read}
-use Rattle.ssa_text.proofs.WordTexts.{short_word, IsPlainText, text_of_word, known_text, text_append, name_bytes, name_is_word, is_name-name, spells_text}
+use Rattle.ssa_lines.proofs.WordTexts.{short_word, IsPlainText, text_of_word, known_text, text_append, name_bytes, name_is_word, is_name-name, spells_text}
 
 -- the group of results is read as they are
 results_read : (types : List Scalar) → results_of (words_of (results_text types)) ≡ Some types

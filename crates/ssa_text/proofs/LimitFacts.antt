@@ -1,7 +1,5 @@
 -- What is known of a line that passes no limit: of its own parts, and of what was read before it.
-use Rattle.std.proofs.Common.{◌≡◌, ℕ, ◌<◌, ◌≤◌, Bool, true, false, nat_lt, nat_le, length, Option, None, Some, if◌then◌else◌, refl}
-use Rattle.std.specs.Option.{option_or}
-use Rattle.std.proofs.lemmas.Bool.{ltb-false, leb-false}
+use Rattle.std.proofs.Common.{◌≡◌, ◌<◌, ◌≤◌, length, None}
 use Rattle.ssa_ir.specs.declared.types.Sig.{Sig}
 use Rattle.ssa_ir.specs.declared.func.Value.{Value}
 use Rattle.ssa_ir.specs.Limits.{SigWithinLimits, ValueWithinLimits}
@@ -9,8 +7,8 @@ use Rattle.ssa_lines.specs.declared.forms.Spelled.TheVariants.{Fits, TooLarge as
 use Rattle.ssa_lines.specs.declared.forms.ValueLine.TheVariants.{Known, UnknownOp as NoSuchOp, TooLarge as ValueTooLarge}
 use Rattle.ssa_lines.specs.declared.forms.Form.{Form}
 use Rattle.ssa_lines.specs.declared.forms.Form.TheVariants.{Blank, Case, Sig as SigForm, Func as FuncForm, Block as BlockForm, Value as ValueForm, Control as ControlForm, Bad}
-use Rattle.ssa_text.specs.declared.refusal.LimitKind.{LimitKind}
-use Rattle.ssa_text.specs.declared.refusal.LimitKind.TheVariants.{Functions, Sigs, Values, Blocks, Params, Results, Args}
+use Rattle.ssa_lines.specs.declared.refusal.LimitKind.TheVariants.{Functions, Sigs, Values, Blocks, Params, Results, Args}
+use Rattle.ssa_lines.proofs.LimitLemmas.{not_over, not_full, neither}
 use Rattle.ssa_text.specs.Reading.{Read, block_ids, values_so_far, over, full, func_count, sig_limit, tuple_length, value_limit, limit_passed}
 
 -- the limits of a form's own parts
@@ -42,25 +40,6 @@ HasRoom r (ValueForm ValueTooLarge) = Unit {0}
 HasRoom r (ControlForm (Fits c)) = Unit {0}
 HasRoom r (ControlForm NotSpelled) = Unit {0}
 HasRoom r Bad = Unit {0}
-
-not_over : (limit count : ℕ) (kind : LimitKind) → over limit count kind ≡ None → count ≤ limit
-not_over limit count kind h = go (nat_lt limit count) refl h
-  where
-    go : (b : Bool) → nat_lt limit count ≡ b → (if b then Some kind else None) ≡ None → count ≤ limit
-    go true e past = cc
-    go false e past = ltb-false limit count e
-
-not_full : (limit count : ℕ) (kind : LimitKind) → full limit count kind ≡ None → count < limit
-not_full limit count kind h = go (nat_le limit count) refl h
-  where
-    go : (b : Bool) → nat_le limit count ≡ b → (if b then Some kind else None) ≡ None → count < limit
-    go true e past = cc
-    go false e past = leb-false limit count e
-
--- where of two options neither is there
-pub neither : {X : Type 0} (a b : Option X) → option_or a b ≡ None → (a ≡ None) × (b ≡ None)
-neither None b h = (refl, h)
-neither (Some x) b h = cc
 
 sig_limits : (s : Sig) → sig_limit s ≡ None → SigWithinLimits s
 sig_limits s h =

@@ -7,7 +7,7 @@ use Rattle.ssa_lines.specs.declared.forms.Form.{Form}
 use Rattle.ssa_lines.specs.declared.forms.Form.TheVariants.{Blank, Case, Sig as SigForm, Func as FuncForm, Block as BlockForm, Value as ValueForm, Control as ControlForm, Bad}
 use Rattle.ssa_text.specs.declared.partial.OpenBlock.{OpenBlock}
 use Rattle.ssa_text.specs.declared.partial.OpenFunc.{OpenFunc}
-use Rattle.ssa_text.specs.declared.refusal.TextRefusal.{TextRefusal}
+use Rattle.ssa_lines.specs.declared.refusal.TextRefusal.{TextRefusal}
 use Rattle.ssa_text.specs.Reading.{Read, has_open_block, leaves_open, change, begin_block, add_value, value_behind, end_open, end_block, behind, then_read, is_last, read_from}
 use Rattle.ssa_text.proofs.FormTests.{Passes}
 

@@ -13,7 +13,7 @@ use Rattle.ssa_lines.specs.declared.forms.ControlLine.{ControlLine}
 use Rattle.ssa_text.specs.declared.partial.OpenBlock.{OpenBlock}
 use Rattle.ssa_text.specs.declared.partial.OpenFunc.{OpenFunc}
 use Rattle.ssa_text.specs.Reading.{has_open_block, open_block_id, block_ids, open_values, values_so_far, change, begin_block, add_value, value_behind, whole_block, end_open, end_block, whole, with_whole}
-use Rattle.ssa_text.proofs.FormFacts.{IsTextBlock, BlockFacts, ControlFacts}
+use Rattle.ssa_lines.proofs.FormFacts.{IsTextBlock, BlockFacts, ControlFacts}
 use Rattle.ssa_text.proofs.ListLemmas.{length_push, numbers_differ}
 use Rattle.ssa_text.proofs.ReadFacts.{GoodPreds, GoodBlock, GoodValue, ValuesWell, IdsWell, PartsWell, FuncWell}
 use Rattle.ssa_text.proofs.TakeLemmas.{values_kept_by_block, blocks_kept_by_value, blocks_kept_by_end, values_kept_by_end}

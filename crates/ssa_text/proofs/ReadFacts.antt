@@ -17,7 +17,7 @@ use Rattle.ssa_text.specs.declared.partial.Named.{Named}
 use Rattle.ssa_text.specs.declared.partial.Named.TheVariants.{OfValue, OfBlock}
 use Rattle.ssa_text.specs.declared.partial.Mention.{Mention}
 use Rattle.ssa_text.specs.Reading.{Read, in_place, is_too_large, is_twice, names_given, block_ids, values_so_far, func_count}
-use Rattle.ssa_text.proofs.FormFacts.{IsTextBlock, FormFacts}
+use Rattle.ssa_lines.proofs.FormFacts.{IsTextBlock, FormFacts}
 use Rattle.ssa_text.proofs.LimitFacts.{FormLimits, HasRoom}
 
 -- a line of this form has no fault, and the facts of its form

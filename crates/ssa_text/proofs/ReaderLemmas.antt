@@ -1,5 +1,5 @@
 -- What tables of numbers say of the values and blocks that have them.
-use Rattle.std.proofs.Common.{◌≡◌, ◌==◌, ℕ, Bool, false, ◌||◌, List, [], ◌∷◌, ◌++◌, map, is_some, Option, None, Some, refl, ap, ◌∙◌}
+use Rattle.std.proofs.Common.{◌≡◌, ◌==◌, ℕ, false, List, ◌++◌, map, is_some, Option, None, Some, refl, ap, ◌∙◌}
 use Rattle.std.specs.List.{list_any}
 use Rattle.std.proofs.lemmas.List.{append-nil}
 use Rattle.gossa_base.specs.declared.ids.BlockId.{BlockId}
@@ -7,13 +7,8 @@ use Rattle.ssa_ir.specs.declared.func.Block.{Block}
 use Rattle.ssa_text.specs.declared.partial.OpenBlock.{OpenBlock}
 use Rattle.ssa_text.specs.declared.partial.OpenFunc.{OpenFunc}
 use Rattle.ssa_text.specs.declared.partial.Named.TheVariants.{OfBlock}
+use Rattle.ssa_lines.proofs.TableLemmas.{list_any_map}
 use Rattle.ssa_text.specs.Reading.{has_open_block, open_block_id, block_ids, has_named}
-
--- a test of what the items of a list give
-pub list_any_map : {X Y : Type 0} (f : X → Y) (test : Y → Bool) (xs : List X)
-    → list_any test (map f xs) ≡ list_any (λ x. test (f x)) xs
-list_any_map f test [] = refl
-list_any_map f test (x ∷ xs) = ap (λ b. test (f x) || b) (list_any_map f test xs)
 
 whole_blocks : (n : ℕ) (blocks : List Block) (b : Option OpenBlock) → is_some b ≡ false
     → list_any (λ (id : BlockId). id.n == n) (map (λ c. c.id) blocks ++ open_block_id b) ≡ list_any (λ c. c.id.n == n) blocks

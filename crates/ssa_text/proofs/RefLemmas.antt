@@ -17,7 +17,7 @@ use Rattle.ssa_text.specs.declared.partial.OpenFunc.{OpenFunc}
 use Rattle.ssa_text.specs.declared.partial.Named.TheVariants.{OfValue, OfBlock}
 use Rattle.ssa_text.specs.declared.partial.Mention.{Mention}
 use Rattle.ssa_text.specs.Reading.{has_open_block, block_ids, open_block_id, open_values, has_named, unknown_in, whole, with_whole}
-use Rattle.ssa_text.proofs.FormFacts.{IsTextBlock}
+use Rattle.ssa_lines.proofs.FormFacts.{IsTextBlock}
 use Rattle.ssa_text.proofs.ListLemmas.{All-unmap, All-front, none_found, found_by_test, same_tests}
 use Rattle.ssa_text.proofs.MentionLemmas.{ArgsPass}
 use Rattle.ssa_text.proofs.ReadFacts.{GoodBlock, IdsWell, PartsWell, ValuePasses, BlockPasses, EndPasses, MentionsWell, RefsThere}

@@ -1,91 +1,120 @@
--- A unit that was read reads back from its printed text.
-use Rattle.std.proofs.Common.{◌≡◌, ℕ, false, List, [], ◌∷◌, ◌++◌, is_some, Option, None, Some, Result, Ok, Err, All, refl, sym, ap, ◌∙◌, true≢false}
+-- What was read, a unit or cases, reads back from its printed text.
+use Rattle.std.proofs.Common.{◌≡◌, ℕ, false, List, [], ◌∷◌, ◌++◌, is_some, Option, None, Some, Ok, All, refl, sym, ap, subst, ◌∙◌, true≢false}
 use Rattle.std.specs.List.{flat_map}
-use Rattle.std.proofs.lemmas.List.{append_assoc, append-nil}
+use Rattle.std.specs.Option.{option_or}
+use Rattle.std.proofs.lemmas.List.{append_assoc}
 use Rattle.std.proofs.lemmas.List.Elements.{All-head, All-tail}
+use Rattle.ssa_ir.specs.declared.case.Case.{Case}
 use Rattle.ssa_ir.specs.declared.func.SsaUnit.{SsaUnit}
 use Rattle.ssa_ir.specs.Texts.{newline, sig_line}
 use Rattle.ssa_lines.specs.Lines.{lines_of}
 use Rattle.ssa_lines.proofs.LineLemmas.{HasNoNewline, line_in_front}
-use Rattle.ssa_text.specs.declared.refusal.TextRefusal.{TextRefusal}
-use Rattle.ssa_text.specs.Reading.{Read, nothing, has_open_block, with_whole, unknown_line, read_from, unit_or_unknown, finish, finished, read_text}
+use Rattle.case_text.specs.CaseReading.{no_cases, read_from as read_cases_from}
+use Rattle.case_text.specs.CaseText.{cases_text}
+use Rattle.case_text.proofs.CaseFacts.{CasesFacts}
+use Rattle.case_text.proofs.CaseRoundTrip.{CasesReadBack as CasesAgain, cases_read_back, reads_printed}
+use Rattle.case_text.proofs.CasesReadLemmas.{facts_of_read, facts_of_cases}
+use Rattle.ssa_text.specs.CaseSplit.{case_line, from_case, through_case}
+use Rattle.ssa_text.specs.Reading.{Read, nothing, has_open_block, with_whole, unknown_line, read_from, unit_or_unknown}
+use Rattle.ssa_text.specs.ReadLaws.{ReadsBack, CasesReadBack}
 use Rattle.ssa_text.specs.Text.{func_text, unit_text}
-use Rattle.ssa_text.specs.ReadLaws.{ReadsBack}
+use Rattle.ssa_text.specs.UnitReading.{function_names, with_cases, cases_behind, read_unit}
 use Rattle.ssa_text.proofs.AlikeReads.{Alike, alike_unknown}
-use Rattle.ssa_text.proofs.OpenBlocks.{same_read}
+use Rattle.ssa_text.proofs.CaseLines.{through_case-behind, from_case-behind}
+use Rattle.ssa_text.proofs.CasesBehind.{from_case-cases_text, read_through_case}
 use Rattle.ssa_text.proofs.Replay.{Replayed, replay}
-use Rattle.ssa_text.proofs.TakenLemmas.{closed_at_end}
 use Rattle.ssa_text.proofs.TextSoFar.{ended, text_so_far, text_of_whole}
+use Rattle.ssa_text.proofs.UnitParts.{all_cases, UnitParts, unit_parts}
+use Rattle.ssa_text.proofs.WellFormedRead.{unit_of}
 
--- the unit that was read
-abbrev unit_of : Read → SsaUnit
-unit_of r = record { sigs = r.sigs; funcs = with_whole r.funcs r.func; cases = [] }
+-- ---- the printed text
 
--- lines with their LF are those lines
-lines_of-ended : (lines : List (List ℕ)) → All HasNoNewline lines → lines_of (flat_map ended lines) ≡ lines
-lines_of-ended [] all = refl
-lines_of-ended (line ∷ lines) all =
-    ap lines_of (append_assoc line newline (flat_map ended lines))
-    ∙ line_in_front line (flat_map ended lines) (All-head HasNoNewline line lines all)
-    ∙ ap (λ l. line ∷ l) (lines_of-ended lines (All-tail HasNoNewline line lines all))
+-- lines with their LF are those lines, in front of any text
+lines_of-ended : (lines : List (List ℕ)) (text : List ℕ) → All HasNoNewline lines →
+    lines_of (flat_map ended lines ++ text) ≡ lines ++ lines_of text
+lines_of-ended [] text all = refl
+lines_of-ended (line ∷ lines) text all =
+    let later : List ℕ = flat_map ended lines in
+    ap lines_of (append_assoc (ended line) later text ∙ append_assoc line newline (later ++ text))
+    ∙ line_in_front line (later ++ text) (All-head HasNoNewline line lines all)
+    ∙ ap (λ l. line ∷ l) (lines_of-ended lines text (All-tail HasNoNewline line lines all))
 
--- a unit that was read has all that it names
-unit_was_read : (x u : SsaUnit) (o : Option ℕ) → unit_or_unknown x o ≡ Ok u → (o ≡ None) × (x ≡ u)
-unit_was_read x u None h = (refl, cc)
-unit_was_read x u (Some line) h = cc
-
-was_finished : (o : Result Read TextRefusal) (u : SsaUnit) → finished o ≡ Ok u →
-    (end : Read) × (o ≡ Ok end) × (finish end ≡ Ok u)
-was_finished (Ok end) u h = (end, refl, h)
-was_finished (Err fault) u h = cc
-
--- no block is left open in a text that was read
-whole_text_was_read : (end : Read) (lines : List (List ℕ)) → read_from nothing 1 lines ≡ Ok end →
-    has_open_block end.func ≡ false
-whole_text_was_read end [] h = ap (λ (x : Read). has_open_block x.func) (sym (same_read nothing end h))
-whole_text_was_read end (line ∷ lines) h = closed_at_end nothing end 1 line lines h
-
--- its text is that of all that was read
-unit_text_of : (end : Read) → has_open_block end.func ≡ false → unit_text (unit_of end) ≡ text_so_far end
-unit_text_of end closed =
-    ap (λ l. flat_map sig_line end.sigs ++ l) (append-nil (flat_map func_text (with_whole end.funcs end.func)))
-    ∙ sym (text_of_whole end.sigs end.funcs end.func closed)
+-- the text of a unit is that of all that was read, and that of its cases
+unit_text_of : (end : Read) (cases : List Case) → has_open_block end.func ≡ false →
+    unit_text (unit_of end cases) ≡ text_so_far end ++ cases_text (function_names end) cases
+unit_text_of end cases closed =
+    let funcs : List ℕ = flat_map func_text (with_whole end.funcs end.func) in
+    let behind : List ℕ = cases_text (function_names end) cases in
+    sym (append_assoc (flat_map sig_line end.sigs) funcs behind)
+    ∙ ap (λ l. l ++ behind) (sym (text_of_whole end.sigs end.funcs end.func closed))
 
 none_of : (o : Option ℕ) → is_some o ≡ false → o ≡ None
 none_of None e = refl
 none_of (Some x) e = absurd (true≢false e)
 
--- what is alike gives the same unit
-finished_alike : (end last : Read) (u : SsaUnit) → Alike end last → finish end ≡ Ok u → finish last ≡ Ok u
-finished_alike end last u alike h =
-    let read = unit_was_read (unit_of end) u (unknown_line end) h in
-    let none : unknown_line last ≡ None =
-    none_of (unknown_line last) (sym (alike_unknown end last alike) ∙ ap is_some read.0)
-    in
-    ap (unit_or_unknown (unit_of last)) none
-    ∙ ap (λ (x : Read). Ok (unit_of x)) (sym alike.read)
-    ∙ ap Ok read.1
+-- where all that the one names is there, so it is for what is alike
+known_alike : (end last : Read) → Alike end last → unknown_line end ≡ None → unknown_line last ≡ None
+known_alike end last alike known =
+    none_of (unknown_line last) (sym (alike_unknown end last alike) ∙ ap is_some known)
 
--- the law, without a bound
-pub reads_back : (text : List ℕ) (u : SsaUnit) → read_text text ≡ Ok u → read_text (unit_text u) ≡ Ok u
+-- what was replayed, with these cases behind it, is read and gives the unit again
+printed_again : (end : Read) (cases : List Case) → Replayed nothing nothing 1 end →
+    has_open_block end.func ≡ false → unknown_line end ≡ None → CasesFacts (function_names end) cases →
+    read_unit (unit_text (unit_of end cases)) ≡ Ok (unit_of end cases)
+printed_again end cases again closed known facts =
+    let names : List (List ℕ) = function_names end in
+    let text : List ℕ = unit_text (unit_of end cases) in
+    let last : Read = again.last in
+    let first : ℕ = case_line text in
+    let behind : List (List ℕ) = lines_of (cases_text names cases) in
+    let lines : lines_of text ≡ again.lines ++ behind =
+    ap lines_of (unit_text_of end cases closed ∙ ap (λ l. l ++ cases_text names cases) again.text)
+    ∙ lines_of-ended again.lines (cases_text names cases) again.each
+    in
+    let last_closed : has_open_block last.func ≡ false =
+    ap (λ (x : Read). has_open_block x.func) (sym again.alike.read) ∙ closed
+    in
+    let unit_read : read_from nothing 1 (through_case (lines_of text)) ≡ Ok last =
+    ap (read_from nothing 1) (ap through_case lines ∙ through_case-behind again.lines behind again.no_case)
+    ∙ read_through_case names nothing last 1 again.lines cases facts last_closed again.were_read
+    in
+    let case_lines : from_case (lines_of text) ≡ behind =
+    ap from_case lines ∙ from_case-behind again.lines behind again.no_case ∙ from_case-cases_text names cases facts
+    in
+    let same_names : function_names last ≡ names = ap (λ (x : Read). function_names x) (sym again.alike.read) in
+    let cases_again : CasesAgain names cases first = cases_read_back names cases facts first in
+    let none : unknown_line last ≡ None = known_alike end last again.alike known in
+    (λ i. cases_behind (unit_read i) first (case_lines i))
+    ∙ ap (λ ns. with_cases last (read_cases_from ns no_cases first behind)) same_names
+    ∙ ap (with_cases last) cases_again.were_read
+    ∙ (λ i.
+    unit_or_unknown (unit_of last (cases_again.cases_are i)) (option_or (none i) (cases_again.all_found i)))
+    ∙ ap (λ (x : Read). Ok (unit_of x cases)) (sym again.alike.read)
+
+-- ---- the laws
+
+-- of units, without a bound
+pub reads_back : (text : List ℕ) (u : SsaUnit) → read_unit text ≡ Ok u → read_unit (unit_text u) ≡ Ok u
 reads_back text u h =
-    let whole = was_finished (read_from nothing 1 (lines_of text)) u h in
-    let end : Read = whole.0 in
-    let closed = whole_text_was_read end (lines_of text) whole.1 in
+    let parts : UnitParts text u = unit_parts text u h in
+    let end : Read = parts.end in
+    let cases : List Case = all_cases parts.cases in
     let same : Alike nothing nothing = record { read = refl; named = refl; unknown = refl } in
     let again : Replayed nothing nothing 1 end =
-    replay nothing nothing end 1 1 (lines_of text) (λ none. refl) same closed whole.1
+    replay nothing nothing end 1 1 (through_case (lines_of text)) (λ none. refl) same parts.closed parts.unit_read
     in
-    let read = unit_was_read (unit_of end) u (unknown_line end) whole.2 in
-    let lines : lines_of (unit_text u) ≡ again.lines =
-    ap (λ x. lines_of (unit_text x)) (sym read.1)
-    ∙ ap lines_of (unit_text_of end closed ∙ again.text)
-    ∙ lines_of-ended again.lines again.each
+    let facts : CasesFacts (function_names end) cases =
+    facts_of_read (function_names end) (case_line text) (from_case (lines_of text)) parts.cases parts.cases_read
+    parts.found
     in
-    ap (λ ls. finished (read_from nothing 1 ls)) lines
-    ∙ ap finished again.were_read
-    ∙ finished_alike end again.last u again.alike whole.2
+    subst (λ (x : SsaUnit). read_unit (unit_text x) ≡ Ok x) parts.unit_is
+    (printed_again end cases again parts.closed parts.known facts)
 
 -- and for texts of a length that is read
 pub printed_units_read_back : ReadsBack
 printed_units_read_back text u h short = reads_back text u h
+
+-- of cases
+pub printed_cases_read_back : CasesReadBack
+printed_cases_read_back names first text cases h short again =
+    reads_printed names cases (facts_of_cases names first text cases h) again

@@ -12,8 +12,8 @@ use Rattle.ssa_lines.specs.declared.forms.BlockLine.{BlockLine}
 use Rattle.ssa_lines.specs.declared.forms.ControlLine.{ControlLine}
 use Rattle.ssa_text.specs.declared.partial.OpenBlock.{OpenBlock}
 use Rattle.ssa_text.specs.declared.partial.OpenFunc.{OpenFunc}
-use Rattle.ssa_text.specs.Tables.{with_number}
-use Rattle.ssa_text.proofs.ReaderLemmas.{list_any_map}
+use Rattle.ssa_lines.specs.Tables.{with_number}
+use Rattle.ssa_lines.proofs.TableLemmas.{list_any_map}
 use Rattle.ssa_text.specs.Reading.{has_open_block, open_name, open_block_id, block_ids, open_values, values_so_far, change, begin_block, add_value, value_behind, whole_block, end_open, end_block, with_whole}
 
 -- the names of signatures, of whole functions, and of one that goes on
@@ -27,7 +27,8 @@ sig_behind sigs s =
     ∙ map-append (λ (t : Sig). t.name) sigs (s ∷ [])
     ∙ ap (λ l. l ++ s.name ∷ []) (sym (append-nil (map (λ t. t.name) sigs)))
 
-whole_names : (funcs : List Func) (func : Option OpenFunc)
+-- the names of all functions are those of the whole ones, and then that of the one that goes on
+pub whole_names : (funcs : List Func) (func : Option OpenFunc)
     → map (λ (f : Func). f.sig.name) (with_whole funcs func) ≡ map (λ f. f.sig.name) funcs ++ open_name func
 whole_names funcs None = sym (append-nil (map (λ f. f.sig.name) funcs))
 whole_names funcs (Some f) = map-append (λ (g : Func). g.sig.name) funcs (record { sig = f.sig; blocks = f.blocks } ∷ [])

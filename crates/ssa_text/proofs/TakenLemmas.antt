@@ -1,10 +1,10 @@
 -- What is known of a line without a fault, and of all lines that are read without one.
-use Rattle.std.proofs.Common.{◌≡◌, ℕ, ◌+◌, Bool, true, false, List, [], ◌∷◌, Ok, None, subst, sym, ◌∙◌}
+use Rattle.std.proofs.Common.{◌≡◌, ℕ, ◌+◌, Bool, true, false, List, [], ◌∷◌, Ok, None, subst, sym, ap, ◌∙◌}
 use Rattle.ssa_lines.specs.Forms.{form_of}
 use Rattle.ssa_lines.specs.Words.{words_of}
 use Rattle.ssa_lines.specs.declared.forms.Form.{Form}
-use Rattle.ssa_text.specs.Reading.{Read, has_open_block, fault_of_form, fault_of, is_last, read_from, behind}
-use Rattle.ssa_text.proofs.FormFacts.{FormFacts}
+use Rattle.ssa_text.specs.Reading.{Read, nothing, has_open_block, fault_of_form, fault_of, is_last, read_from, behind}
+use Rattle.ssa_lines.proofs.FormFacts.{FormFacts}
 use Rattle.ssa_text.proofs.FormFactsLemmas.{form_facts}
 use Rattle.ssa_text.proofs.FormTests.{passes, form_has_no_fault}
 use Rattle.ssa_text.proofs.LimitFacts.{form_limits, room_for_form}
@@ -58,3 +58,9 @@ closed_at_end r s line bytes (other ∷ lines) e =
     (λ next. read_from next (line + 1) (other ∷ lines)) e
     in
     closed_at_end (behind r line form) s (line + 1) other lines parts.1
+
+-- nor behind any lines that are read from the first on
+pub closed_when_read : (lines : List (List ℕ)) (r : Read) → read_from nothing 1 lines ≡ Ok r
+    → has_open_block r.func ≡ false
+closed_when_read [] r e = sym (ap (λ (q : Read). has_open_block q.func) (same_read nothing r e))
+closed_when_read (bytes ∷ lines) r e = closed_at_end nothing r 1 bytes lines e

@@ -23,7 +23,7 @@ use Rattle.ssa_text.specs.declared.partial.OpenFunc.{OpenFunc}
 use Rattle.ssa_text.specs.Reading.{Read, has_open_block, whole, with_whole, change, begin_block, add_value, value_behind, whole_block, end_open, end_block, behind}
 use Rattle.ssa_text.specs.Text.{type_text, aux_text, value_line, preds_text, end_text, block_lines, func_text}
 use Rattle.ssa_text.proofs.FormTests.{Passes}
-use Rattle.ssa_text.proofs.FormTexts.{is_blank, line_of}
+use Rattle.ssa_text.proofs.FormTexts.{is_left_out, line_of}
 use Rattle.ssa_text.proofs.TakeLemmas.{still_none}
 
 -- a line with its LF
@@ -201,10 +201,10 @@ sigs_stay_first r line (ControlForm NotSpelled) first = first
 sigs_stay_first r line (ControlForm (Fits c)) first = still_none (end_block c) r.func r.funcs first
 
 -- a line adds the one of its form
-pub text_behind : (r : Read) (line : ℕ) (form : Form) → SigsFirst r → Passes r form → is_blank form ≡ false →
+pub text_behind : (r : Read) (line : ℕ) (form : Form) → SigsFirst r → Passes r form → is_left_out form ≡ false →
     text_so_far (behind r line form) ≡ text_so_far r ++ ended (line_of form)
 text_behind r line Blank first h full = absurd (true≢false full)
-text_behind r line Case first h full = absurd (true≢false (sym h.in_its_place))
+text_behind r line Case first h full = absurd (true≢false full)
 text_behind r line Bad first h full = absurd (true≢false (sym h.in_its_place))
 text_behind r line (SigForm s) first h full = sig_adds r.sigs r.funcs r.func s h.in_its_place first
 text_behind r line (FuncForm s) first h full =

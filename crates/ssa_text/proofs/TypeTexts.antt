@@ -19,8 +19,8 @@ use Rattle.ssa_lines.specs.Types.{scalar_of, is_comma, before_type, tuple_of, ty
 use Rattle.ssa_lines.specs.Words.{words_of, is_same}
 use Rattle.ssa_lines.proofs.WordLemmas.{HasNoSpace, EndsWord, word_and_space, word_in_front, without_last_of}
 use Rattle.ssa_text.specs.Text.{before_commas, type_name}
-use Rattle.ssa_text.proofs.LineBytes.{IsPlainWord, plain_word_append}
-use Rattle.ssa_text.proofs.WordTexts.{short_word, longer_word, between_is_word}
+use Rattle.ssa_lines.proofs.LineBytes.{IsPlainWord, plain_word_append}
+use Rattle.ssa_lines.proofs.WordTexts.{short_word, longer_word, between_is_word}
 
 -- the name of a type of one word is read as that type
 pub scalar_read : (t : Scalar) → scalar_of (scalar_name t) ≡ Some t

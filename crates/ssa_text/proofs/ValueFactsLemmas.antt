@@ -24,9 +24,9 @@ use Rattle.ssa_lines.specs.Types.{is_comma, scalar_of, before_type, tuple_of, ty
 use Rattle.ssa_lines.specs.Words.{is_same}
 use Rattle.ssa_lines.specs.ValueForms.{Extras, between, behind_mark, past, next_word, extras_ahead, aux_by, value_with, generic, generic_named, tuple_op, is_end, args_ahead, all_args, line_by_op, value_behind, value_line}
 use Rattle.ssa_text.proofs.AuxFactsLemmas.{signed_fits, NumberByRule, AuxByRule, aux_shown}
-use Rattle.ssa_text.proofs.FormFacts.{IsValueNumber, ValueFacts}
-use Rattle.ssa_text.proofs.NumberFactsLemmas.{InRange, IfFits, word_in_range, numbers_in_range, values_fit}
-use Rattle.ssa_text.proofs.GrammarLemmas.{then_shown, then_any, either_shown}
+use Rattle.ssa_lines.proofs.FormFacts.{IsValueNumber, ValueFacts}
+use Rattle.ssa_lines.proofs.NumberFactsLemmas.{InRange, IfFits, word_in_range, numbers_in_range, values_fit}
+use Rattle.ssa_lines.proofs.GrammarLemmas.{then_shown, then_any, either_shown}
 
 -- what is known of a line with the shape of a value's
 abbrev pub LineFacts : ValueLine → Type 0

@@ -32,13 +32,13 @@ use Rattle.ssa_lines.specs.ValueForms.{Extras, generic, generic_named, extras_ah
 use Rattle.ssa_lines.specs.Words.{words_of, opens, without_last}
 use Rattle.ssa_lines.proofs.WordLemmas.{space_in_front}
 use Rattle.ssa_text.specs.Text.{type_name, type_text, aux_text}
-use Rattle.ssa_text.proofs.FormFacts.{Spells, ValueFacts}
-use Rattle.ssa_text.proofs.LineBytes.{IsPlainWord, plain_word_in_front, EndsWord-led}
-use Rattle.ssa_text.proofs.NumberTexts.{value_is_word, number_word-value, words_of-values, AllPlain-values, length-values, all_args-values}
+use Rattle.ssa_lines.proofs.FormFacts.{Spells, ValueFacts}
+use Rattle.ssa_lines.proofs.LineBytes.{IsPlainWord, plain_word_in_front, EndsWord-led}
+use Rattle.ssa_lines.proofs.NumberTexts.{value_is_word, number_word-value, words_of-values, AllPlain-values, length-values, all_args-values}
 use Rattle.ssa_text.proofs.AuxTexts.{ReadsAux, HasAux, aux_of, rule_read}
-use Rattle.ssa_text.proofs.IntegerTexts.{signed_word}
+use Rattle.ssa_lines.proofs.IntegerTexts.{signed_word}
 use Rattle.ssa_text.proofs.TypeTexts.{type_read, bracketed_type_is_word}
-use Rattle.ssa_text.proofs.WordTexts.{is_short_word, short_word, IsPlainText, text_of_word, known_text, text_append, between_read, spells_text}
+use Rattle.ssa_lines.proofs.WordTexts.{is_short_word, short_word, IsPlainText, text_of_word, known_text, text_append, between_read, spells_text}
 
 passes_by_test : (test good : Op → Bool) (a : Op) (ops : List Op) (op : Op) → find test (a ∷ ops) ≡ Some op →
     good a ≡ true → (find test ops ≡ Some op → good op ≡ true) → (b : Bool) → test a ≡ b → good op ≡ true

@@ -21,6 +21,16 @@ abbrev pub before_case : List (List ℕ) → List (List ℕ)
 before_case [] = []
 before_case (line ∷ lines) = if is_case_line line then [] else line ∷ before_case lines
 
+-- the lines through the first such line; all where there is none
+abbrev pub through_case : List (List ℕ) → List (List ℕ)
+through_case [] = []
+through_case (line ∷ lines) = if is_case_line line then line ∷ [] else line ∷ through_case lines
+
+-- the lines from the first such line on
+abbrev pub from_case : List (List ℕ) → List (List ℕ)
+from_case [] = []
+from_case (line ∷ lines) = if is_case_line line then line ∷ lines else from_case lines
+
 -- how many bytes lines take, with the LF behind each
 abbrev pub bytes_of : List (List ℕ) → ℕ
 bytes_of [] = 0

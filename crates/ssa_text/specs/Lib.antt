@@ -1,7 +1,5 @@
 pub mod CaseSplit
-pub mod CaseText
 pub mod ReadLaws
 pub mod Reading
-pub mod ReadsAs
-pub mod Tables
 pub mod Text
+pub mod UnitReading

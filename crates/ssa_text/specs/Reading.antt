@@ -1,5 +1,5 @@
--- What text a unit is read from: the lines one by one, with what was read before them. Cases aren't read yet.
-use Rattle.std.specs.Prelude.{ℕ, ◌+◌, ◌==◌, nat_le, nat_lt, nat_eq, Bool, true, false, not, ◌&&◌, ◌||◌, if◌then◌else◌, List, [], ◌∷◌, ◌++◌, length, map, is_none, is_some, find, Option, None, Some, Result, Ok, Err}
+-- What the lines of a unit in front of its cases are read as: one by one, with what was read before them.
+use Rattle.std.specs.Prelude.{ℕ, ◌+◌, ◌==◌, nat_lt, nat_eq, Bool, true, false, not, ◌&&◌, ◌||◌, if◌then◌else◌, List, [], ◌∷◌, ◌++◌, length, map, is_none, is_some, find, Option, None, Some, Result, Ok, Err}
 use Rattle.std.specs.Cmp.Lexicographic.{pointwise}
 use Rattle.std.specs.List.{flat_map, list_any}
 use Rattle.std.specs.Option.{option_map, option_or}
@@ -14,7 +14,8 @@ use Rattle.ssa_ir.specs.declared.func.SsaUnit.{SsaUnit}
 use Rattle.ssa_ir.specs.Limits.{tuple_words}
 use Rattle.ssa_ir.specs.Lookups.{is_numbered}
 use Rattle.ssa_lines.specs.Forms.{form_of}
-use Rattle.ssa_lines.specs.Lines.{lines_of, is_allowed}
+pub use Rattle.ssa_lines.specs.Limits.{over, full, limit_of}
+use Rattle.ssa_lines.specs.Lines.{is_allowed}
 use Rattle.ssa_lines.specs.Words.{words_of}
 use Rattle.ssa_lines.specs.declared.forms.Spelled.TheVariants.{Fits, TooLarge as NotSpelled}
 use Rattle.ssa_lines.specs.declared.forms.BlockLine.{BlockLine}
@@ -27,10 +28,10 @@ use Rattle.ssa_text.specs.declared.partial.OpenFunc.{OpenFunc}
 use Rattle.ssa_text.specs.declared.partial.Named.{Named}
 use Rattle.ssa_text.specs.declared.partial.Named.TheVariants.{OfValue, OfBlock}
 use Rattle.ssa_text.specs.declared.partial.Mention.{Mention}
-use Rattle.ssa_text.specs.declared.refusal.LimitKind.{LimitKind}
-use Rattle.ssa_text.specs.declared.refusal.LimitKind.TheVariants.{LineBytes, Functions, Sigs, Values, Blocks, Params, Results, Args}
-use Rattle.ssa_text.specs.declared.refusal.TextRefusal.{TextRefusal}
-use Rattle.ssa_text.specs.declared.refusal.TextRefusal.TheVariants.{BadByte, BadLine, UnknownOp, NumberTooLarge, Duplicate, UnknownRef, Limit}
+use Rattle.ssa_lines.specs.declared.refusal.LimitKind.{LimitKind}
+use Rattle.ssa_lines.specs.declared.refusal.LimitKind.TheVariants.{LineBytes, Functions, Sigs, Values, Blocks, Params, Results, Args}
+use Rattle.ssa_lines.specs.declared.refusal.TextRefusal.{TextRefusal}
+use Rattle.ssa_lines.specs.declared.refusal.TextRefusal.TheVariants.{BadByte, BadLine, UnknownOp, NumberTooLarge, Duplicate, UnknownRef, Limit}
 
 -- what was read: signatures, whole functions, one that goes on, what its lines name, and the first line of a whole function that
 -- names what its function doesn't have
@@ -52,7 +53,8 @@ abbrev pub has_open_block : Option OpenFunc → Bool
 has_open_block None = false
 has_open_block (Some f) = is_some f.block
 
--- a line of this form may stand here: signatures, then functions; a function's blocks, each with its values and its end
+-- a line of this form may stand here: signatures, then functions, then cases; a function's blocks, each with its values and
+-- its end
 abbrev pub in_place : Read → Form → Bool
 in_place r Blank = true
 in_place r (SigForm sig) = is_none r.func
@@ -60,7 +62,7 @@ in_place r (FuncForm sig) = not (has_open_block r.func)
 in_place r (BlockForm b) = is_some r.func && not (has_open_block r.func)
 in_place r (ValueForm v) = has_open_block r.func
 in_place r (ControlForm c) = has_open_block r.func
-in_place r Case = false
+in_place r Case = not (has_open_block r.func)
 in_place r Bad = false
 
 -- a block goes on behind a line of this form
@@ -113,14 +115,6 @@ is_twice r (BlockForm (Fits b)) = list_any (λ id. id.n == b.n) (block_ids r.fun
 is_twice r (ValueForm (Known v)) = list_any (λ u. u.id.0 == v.id.0) (values_so_far r.func)
 is_twice r _ = false
 
--- a limit that a count is above
-abbrev pub over : ℕ → ℕ → LimitKind → Option LimitKind
-over limit count kind = if nat_lt limit count then Some kind else None
-
--- a limit that is reached, so that one more passes it
-abbrev pub full : ℕ → ℕ → LimitKind → Option LimitKind
-full limit count kind = if nat_le limit count then Some kind else None
-
 -- how many functions there are, with the one that goes on
 abbrev pub func_count : Read → ℕ
 func_count r = length r.funcs + (if is_some r.func then 1 else 0)
@@ -144,10 +138,6 @@ limit_passed r (BlockForm (Fits b)) =
     option_or (full 1024 (length (block_ids r.func)) Blocks) (over 380 (length b.preds) Args)
 limit_passed r (ValueForm (Known v)) = option_or (full 8192 (length (values_so_far r.func)) Values) (value_limit v)
 limit_passed r _ = None
-
-abbrev pub limit_of : ℕ → Option LimitKind → Option TextRefusal
-limit_of line None = None
-limit_of line (Some kind) = Some (Limit kind line)
 
 -- what is wrong with a line of this form, the first of all that is
 abbrev pub fault_of_form : Read → (line : ℕ) → (last : Bool) → Form → Option TextRefusal
@@ -267,18 +257,7 @@ read_from r line [] = Ok r
 read_from r line (bytes ∷ lines) =
     then_read (fault_of r line (is_last lines) bytes) (behind r line (form_of (words_of bytes))) (λ next. read_from next (line + 1) lines)
 
+-- the unit that was read, where all that is named is there
 abbrev pub unit_or_unknown : SsaUnit → Option ℕ → Result SsaUnit TextRefusal
 unit_or_unknown u None = Ok u
 unit_or_unknown u (Some line) = Err (UnknownRef line)
-
--- the unit that was read, where all that is named is there
-abbrev pub finish : Read → Result SsaUnit TextRefusal
-finish r = unit_or_unknown (record { sigs = r.sigs; funcs = with_whole r.funcs r.func; cases = [] }) (unknown_line r)
-
-abbrev pub finished : Result Read TextRefusal → Result SsaUnit TextRefusal
-finished (Ok r) = finish r
-finished (Err fault) = Err fault
-
--- the unit that a text spells, or its first fault
-abbrev pub read_text : List ℕ → Result SsaUnit TextRefusal
-read_text text = finished (read_from nothing 1 (lines_of text))

@@ -19,7 +19,7 @@ use Rattle.ssa_ir.specs.declared.func.SsaUnit.{SsaUnit}
 use Rattle.ssa_ir.specs.Ops.{row_of}
 use Rattle.ssa_ir.specs.OpNames.{op_name}
 use Rattle.ssa_ir.specs.Texts.{newline, scalar_name, sig_text, sig_line}
-use Rattle.ssa_text.specs.CaseText.{cases_text}
+use Rattle.case_text.specs.CaseText.{cases_text}
 
 -- words, each ended by a comma
 abbrev pub before_commas : List Scalar → List ℕ

@@ -1,6 +1,6 @@
 //! The text of units, in the form of Go's SSA dumps.
 //!
-//! [`read_unit_part`] reads a text line by line: what a line spells by itself is `ssa_lines`' to say, and here it meets what
+//! [`read_unit`] reads a text line by line: what a line spells by itself is `ssa_lines`' to say, and here it meets what
 //! was read before it. A text is a unit, or is refused at its first line with a fault, for the first fault of that line.
 //! [`print_unit`] gives the one canonical text of a unit, and [`print_cases`] that of its cases alone: no indentation,
 //! one space between words, each line ended by LF. A unit that was read reads back from its canonical text
@@ -17,24 +17,21 @@
 //! args 0x7
 //! ```
 //!
-//! Known limits: cases are printed, but not read yet; [`split_cases`] says where they begin.
+//! The cases of a unit are read by `case_text`; [`split_cases`] says where they begin.
 #![tactic(auto)]
 
-pub mod cases;
 pub mod laws;
 pub mod partial;
 pub mod print;
 pub mod read;
 mod reader;
-pub mod refusal;
 pub mod split;
-mod tables;
 
-pub use cases::print_cases;
-pub use print::print_unit;
-pub use read::read_unit_part;
-pub use refusal::{LimitKind, TextRefusal};
-pub use split::{has_case, split_cases};
+pub use case_text::{print_cases, read_cases};
+pub use print::{print_unit, print_unit_cases};
+pub use read::read_unit;
+pub use split::split_cases;
+pub use ssa_lines::{LimitKind, TextRefusal};
 
 #[cfg(test)]
 mod read_tests;

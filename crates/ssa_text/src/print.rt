@@ -2,10 +2,10 @@
 
 ghost use Rattle.std.specs.Prelude.{◌≡◌, ◌++◌, OnOk, IfOk};
 ghost use Rattle.std.specs.List.{flat_map};
-ghost use Rattle.ssa_text.specs.CaseText.{cases_text, name_at};
+ghost use Rattle.case_text.specs.CaseText.{cases_text, name_at};
 ghost use Rattle.ssa_text.specs.Text.{before_commas, type_name, type_text, bool_word, brackets_text, name_or_none, scalar_or_none, braces_text, aux_text, value_line, preds_text, control_text, succ_text, choice_text, end_text, block_head, control_line, block_lines, func_text, func_names, unit_text};
 
-use crate::cases::print_case;
+use case_text::print_case;
 use gossa_base::{
     BlockId, Bytes, Name, NoMemory, Print, Sequence, ValueId, print_led, put, put_signed,
 };
@@ -30,8 +30,8 @@ pub fn print_unit(alloc: Global, unit: &SsaUnit) -> Result<Bytes, NoMemory>
     Ok(Sequence::from_vec(text))
 }
 
-// The cases of these functions.
-fn print_unit_cases(text: &mut Vec<u8>, funcs: &[Func], cases: &[Case]) -> Result<(), NoMemory>
+/// The cases of these functions, behind what the text has.
+pub fn print_unit_cases(text: &mut Vec<u8>, funcs: &[Func], cases: &[Case]) -> Result<(), NoMemory>
     ensures { OnOk result (text.new.items ≡ text.old.items ++ cases_text (func_names funcs.now) cases.now) }
 {
     for case in cases {

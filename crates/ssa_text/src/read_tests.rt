@@ -1,6 +1,6 @@
 // Texts of units: what they spell, and what is refused.
 
-use crate::{LimitKind, TextRefusal, has_case, print_unit, read_unit_part, split_cases};
+use crate::{LimitKind, TextRefusal, print_unit, read_unit, split_cases};
 use gossa_base::{Bytes, NoMemory, put_number};
 use std::alloc::Global;
 use std::test::Fail;
@@ -75,6 +75,31 @@ v17 = StaticLECall <mem> {runtime.panicIndex} v7 v3 v1\n\
 v18 = SelectN <mem> [0] v17\n\
 Exit v18\n";
 
+// Three cases of it, and their canonical text.
+const CASES: &str = "case main.sum 100\n\
+args 0x1000 2 2\n\
+mem 0x1000 03000000000000000400000000000000\n\
+case main.sum 0100\n\
+mem 4096 FF\n\
+args 0x1000 2 0\n\
+case main.sum 100\n\
+args 0x1000 2 3\n\
+junk 1\n\
+junk -1\n\
+fill 0\n\
+reply\n";
+
+const CANONICAL_CASES: &str = "case main.sum 100\n\
+args 0x1000 0x2 0x2\n\
+mem 0x1000 03000000000000000400000000000000\n\
+case main.sum 100\n\
+args 0x1000 0x2 0x0\n\
+mem 0x1000 ff\n\
+case main.sum 100\n\
+args 0x1000 0x2 0x3\n\
+junk 0x1 0xffffffffffffffff\n\
+reply\n";
+
 #[test]
 fn reads_the_marks_of_a_dump(rt: HostRuntime) -> Result<(), Fail> {
     let alloc = rt.alloc();
@@ -84,6 +109,49 @@ fn reads_the_marks_of_a_dump(rt: HostRuntime) -> Result<(), Fail> {
         CANONICAL.as_bytes()
     );
     Ok(())
+}
+
+#[test]
+fn reads_cases_behind_functions(rt: HostRuntime) -> Result<(), Fail> {
+    let alloc = rt.alloc();
+    let text = repeated(alloc, MARKED, CASES, 1, "")?;
+    let want = repeated(alloc, CANONICAL, CANONICAL_CASES, 1, "")?;
+    assert_eq!(rt; canonical_bytes(alloc, &text)?.as_slice(), want.as_slice());
+    Ok(())
+}
+
+#[test]
+fn tells_the_first_fault_of_cases(rt: HostRuntime) {
+    let alloc = rt.alloc();
+    for (text, want) in [
+        ("sig f()\ncase f 1", TextRefusal::UnknownRef(2)),
+        ("func f()\nb1:\ncase f 1\n", TextRefusal::BadLine(3)),
+        ("func f()\ncase f 1\nfunc g()", TextRefusal::BadLine(3)),
+        ("func f()\ncase f 1\nwrite 1 00", TextRefusal::BadLine(3)),
+        ("func f()\ncase f 1\nargs\nargs", TextRefusal::Duplicate(4)),
+        (
+            "func f()\ncase f 1000001",
+            TextRefusal::Limit(LimitKind::Bound, 2),
+        ),
+        (
+            "func f()\ncase f -1",
+            TextRefusal::Limit(LimitKind::Bound, 2),
+        ),
+        (
+            "func f()\nb1:\nPlain -> b2\ncase g 1\nargs x",
+            TextRefusal::BadLine(5),
+        ),
+        (
+            "func f()\nb1:\nPlain -> b2\ncase g 1",
+            TextRefusal::UnknownRef(3),
+        ),
+    ] {
+        assert_eq!(rt;
+            refusal_of(alloc, text.as_bytes()),
+            Some(want),
+            "for {text}"
+        );
+    }
 }
 
 #[test]
@@ -165,6 +233,10 @@ fn tells_the_first_line(rt: HostRuntime) {
     let alloc = rt.alloc();
     for (text, want) in [
         ("func f()\nb1:\n\n", TextRefusal::BadLine(3)),
+        (
+            "func f()\nb1:\nv1 = InitMem <mem>\nv2 = Hmul64 <int64> v1 v1\nExit v1",
+            TextRefusal::UnknownOp(4),
+        ),
         ("func f()\nb1:", TextRefusal::BadLine(2)),
         ("func f()\nb1:\nv0 = InitMem <mem>", TextRefusal::BadLine(3)),
         ("Ret v1", TextRefusal::BadLine(1)),
@@ -319,6 +391,71 @@ fn keeps_limits_of_lines(rt: HostRuntime) -> Result<(), Fail> {
 }
 
 #[test]
+fn keeps_limits_of_cases(rt: HostRuntime) -> Result<(), Fail> {
+    let alloc = rt.alloc();
+    for (head, part, most, behind, want) in [
+        (
+            "func f()\n",
+            "case f 1\n",
+            64,
+            "",
+            TextRefusal::Limit(LimitKind::Cases, 66),
+        ),
+        (
+            "func f()\ncase f 1\n",
+            "reply\n",
+            4096,
+            "",
+            TextRefusal::Limit(LimitKind::Replies, 4099),
+        ),
+        (
+            "func f()\ncase f 1\nmem 0 ",
+            "00",
+            1024,
+            "\n",
+            TextRefusal::Limit(LimitKind::MemBytes, 3),
+        ),
+    ] {
+        let fits = repeated(alloc, head, part, most, behind)?;
+        assert_eq!(rt; refusal_of(alloc, &fits), None, "for {head}");
+        let passes = repeated(alloc, head, part, most + 1, behind)?;
+        assert_eq!(rt; refusal_of(alloc, &passes), Some(want), "for {head}");
+    }
+    Ok(())
+}
+
+#[test]
+fn keeps_the_limit_of_memory(rt: HostRuntime) -> Result<(), Fail> {
+    let alloc = rt.alloc();
+    let line = repeated(alloc, "mem 0 ", "00", 1024, "\n")?;
+    let mut fits = repeated(alloc, "func f()\ncase f 1\n", "", 0, "")?;
+    for _ in 0..64 {
+        fits.extend_from_slice(&line)?;
+    }
+    assert_eq!(rt; refusal_of(alloc, &fits), None);
+    put(&mut fits, "reply\nwrite 0 00\n")?;
+    assert_eq!(rt;
+        refusal_of(alloc, &fits),
+        Some(TextRefusal::Limit(LimitKind::MemBytes, 68))
+    );
+    Ok(())
+}
+
+#[test]
+fn keeps_the_limit_of_junk(rt: HostRuntime) -> Result<(), Fail> {
+    let alloc = rt.alloc();
+    let head = "func f()\ncase f 1\njunk 1 2\n";
+    let mut fits = repeated(alloc, head, "junk 1 2 3 4 5 6 7\n", 1170, "junk\n")?;
+    assert_eq!(rt; refusal_of(alloc, &fits), None);
+    put(&mut fits, "junk 1\n")?;
+    assert_eq!(rt;
+        refusal_of(alloc, &fits),
+        Some(TextRefusal::Limit(LimitKind::JunkWords, 1175))
+    );
+    Ok(())
+}
+
+#[test]
 fn splits_at_the_first_case(rt: HostRuntime) {
     for (text, offset, line) in [
         ("", 0, 1),
@@ -329,20 +466,19 @@ fn splits_at_the_first_case(rt: HostRuntime) {
         ("cases\n// case\ncase", 14, 3),
     ] {
         assert_eq!(rt; split_cases(text.as_bytes()), (offset, line), "for {text}");
-        assert_eq!(rt;
-            has_case(text.as_bytes()),
-            offset < text.len(),
-            "for {text}"
-        );
     }
 }
 
 // The canonical text of the unit that a text spells; no bytes where it is refused.
 fn canonical(alloc: Global, text: &str) -> Result<Bytes, NoMemory> {
+    canonical_bytes(alloc, text.as_bytes())
+}
+
+fn canonical_bytes(alloc: Global, text: &[u8]) -> Result<Bytes, NoMemory> {
     if text.len() > 10_000 {
         return Ok(Bytes::new(alloc));
     }
-    match read_unit_part(alloc, text.as_bytes()) {
+    match read_unit(alloc, text) {
         Ok(unit) => print_unit(alloc, &unit),
         Err(_) => Ok(Bytes::new(alloc)),
     }
@@ -353,7 +489,7 @@ fn refusal_of(alloc: Global, text: &[u8]) -> Option<TextRefusal> {
     if text.len() > 1_000_000 {
         return None;
     }
-    read_unit_part(alloc, text).err()
+    read_unit(alloc, text).err()
 }
 
 // Why a text is refused that has this line in a block.

@@ -7,17 +7,20 @@ ghost use Rattle.ssa_lines.specs.declared.forms.Spelled.TheVariants.{Fits};
 ghost use Rattle.ssa_lines.specs.declared.forms.ValueLine.TheVariants.{Known};
 ghost use Rattle.ssa_text.specs.declared.partial.Named.TheVariants.{OfValue, OfBlock};
 ghost use Rattle.ssa_text.specs.Reading as spec;
-ghost use Rattle.ssa_text.specs.Reading.{nothing, fault_of_form, behind, mention};
-ghost use Rattle.ssa_text.specs.ReadsAs.{ReadsAs};
+ghost use Rattle.std.specs.Option.{option_or};
+ghost use Rattle.ssa_text.specs.Reading.{nothing, fault_of_form, behind, mention, unit_or_unknown};
+ghost use Rattle.ssa_text.specs.UnitReading as unit;
+ghost use Rattle.ssa_lines.specs.ReadsAs.{ReadsAs};
 
 use crate::partial::{
     Mention, Mentions, Named, OpenFunc, with_block, with_end, with_value, with_whole,
 };
-use crate::refusal::{LimitKind, TextRefusal};
-use crate::tables::{NameSet, NumberSet};
+use case_text::CasePart;
 use gossa_base::{BlockId, Name, NoMemory, Sequence, ValueId};
-use ssa_ir::{Funcs, Sig, Sigs, SsaUnit, Ty, Value};
-use ssa_lines::{BlockLine, ControlLine, Form, Spelled, ValueLine};
+use ssa_ir::{Func, Funcs, Sig, Sigs, SsaUnit, Ty, Value};
+use ssa_lines::{
+    BlockLine, ControlLine, Form, LimitKind, NameSet, NumberSet, Spelled, TextRefusal, ValueLine,
+};
 use std::alloc::Global;
 use std::marker::Model;
 
@@ -93,10 +96,10 @@ impl Reader {
         match form {
             Form::Blank => true,
             Form::Sig(_) => self.func.is_none(),
-            Form::Func(_) => !has_open_block(&self.func),
+            Form::Func(_) | Form::Case => !has_open_block(&self.func),
             Form::Block(_) => self.func.is_some() && !has_open_block(&self.func),
             Form::Value(_) | Form::Control(_) => has_open_block(&self.func),
-            Form::Case | Form::Bad => false,
+            Form::Bad => false,
         }
     }
 
@@ -298,20 +301,55 @@ impl Reader {
         self.has_block(id.n)
     }
 
-    /// The unit that was read, where all that is named is there.
-    pub(crate) fn finish(self, alloc: Global) -> Result<SsaUnit, TextRefusal>
-        requires { spec.has_open_block self.func ≡ false }
-        ensures { ReadsAs result (spec.finish self) }
+    /// The names of the functions that were read.
+    pub(crate) fn function_names(&self, alloc: Global) -> Result<Sequence<Name>, NoMemory>
+        ensures { IfOk result (λ names. names ≡ unit.function_names self.now) }
     {
-        if let Some(line) = self.unknown_line() {
+        let names = whole_names(alloc, self.funcs.as_slice())?;
+        with_open_name(names, &self.func)
+    }
+
+    /// The unit that was read, with these cases, where all that is named is there.
+    pub(crate) fn finish(self, part: CasePart) -> Result<SsaUnit, TextRefusal>
+        requires { spec.has_open_block self.func ≡ false }
+        ensures { ReadsAs result (unit_or_unknown
+            (record { sigs = self.sigs; funcs = spec.with_whole self.funcs self.func; cases = part.cases })
+            (option_or (spec.unknown_line self) part.unknown)) }
+    {
+        if let Some(line) = self.unknown_line().or(part.unknown) {
             return Err(TextRefusal::UnknownRef(line));
         }
         Ok(SsaUnit {
             sigs: self.sigs,
             funcs: with_whole(self.funcs, self.func)?,
-            cases: Sequence::new(alloc),
+            cases: part.cases,
         })
     }
+}
+
+// The names of whole functions.
+fn whole_names(alloc: Global, funcs: &[Func]) -> Result<Sequence<Name>, NoMemory>
+    ensures { IfOk result (λ names. names ≡ map (λ f. f.sig.name) funcs.now) }
+{
+    let mut names = Sequence::new(alloc);
+    for func in funcs {
+        names.push(same_name(&func.sig.name)?)?;
+    }
+    Ok(names)
+}
+
+// The names with that of the function that goes on, if any.
+fn with_open_name(
+    names: Sequence<Name>,
+    func: &Option<OpenFunc>,
+) -> Result<Sequence<Name>, NoMemory>
+    ensures { IfOk result (λ all. all ≡ names ++ spec.open_name func.now) }
+{
+    let mut names = names;
+    if let Some(func) = func {
+        names.push(same_name(&func.sig.name)?)?;
+    }
+    Ok(names)
 }
 
 // A name of its own that is the same.

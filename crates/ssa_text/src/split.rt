@@ -1,6 +1,6 @@
 // Where the cases of a text begin.
 
-ghost use Rattle.std.specs.Prelude.{◌≡◌, ◌≤◌, ◌^◌, length};
+ghost use Rattle.std.specs.Prelude.{◌≡◌, ◌+◌, ◌≤◌, ◌^◌, length};
 ghost use Rattle.ssa_text.specs.CaseSplit as spec;
 ghost use Rattle.ssa_text.specs.CaseSplit.{case_offset, case_line};
 
@@ -12,6 +12,8 @@ pub fn split_cases(text: &[u8]) -> (usize, u32)
     requires few { length text.now ≤ 2 ^ 30 }
     ensures offset { result.0 ≡ case_offset text.now }
     ensures line { result.1 ≡ case_line text.now }
+    ensures within { result.0 ≤ length text.now }
+    ensures few_lines { result.1 ≤ length text.now + 1 }
 {
     let mut lines = TextLines::of(text);
     let mut offset = 0;
@@ -26,21 +28,8 @@ pub fn split_cases(text: &[u8]) -> (usize, u32)
     (text.len(), number)
 }
 
-/// Whether a text has a line whose first word is `case`.
-pub fn has_case(text: &[u8]) -> bool
-    ensures { result ≡ spec.has_case text.now }
-{
-    let mut lines = TextLines::of(text);
-    while let Some(line) = lines.next() {
-        if is_case_line(line) {
-            return true;
-        }
-    }
-    false
-}
-
-// Whether the first word of a line is `case`.
-fn is_case_line(line: &[u8]) -> bool
+/// Whether the first word of a line is `case`.
+pub(crate) fn is_case_line(line: &[u8]) -> bool
     ensures { result ≡ spec.is_case_line line.now }
 {
     let mut words = Words::of(line);

@@ -2,7 +2,6 @@
 
 ghost use Rattle.std.specs.Prelude.{◌≤◌, length};
 
-use crate::tables::{NameSet, NumberSet};
 use crate::{print_cases, print_unit};
 use gossa_base::{BlockId, Name, NoMemory, Sequence, ValueId};
 use ssa_ir::{
@@ -645,56 +644,4 @@ fn unit_of_block(alloc: Global, block: Block) -> Result<SsaUnit, NoMemory> {
         funcs,
         cases: Sequence::new(alloc),
     })
-}
-
-#[test]
-fn numbers_are_looked_up(rt: HostRuntime) -> Result<(), Fail> {
-    let mut numbers = NumberSet::new(rt.alloc());
-    assert!(rt; !numbers.contains(1));
-    for _again in 0..2 {
-        for n in 0..100u32 {
-            note_number(&mut numbers, n * 10_000 + 1)?;
-        }
-    }
-    assert_eq!(rt; numbers.len(), 100);
-    assert!(rt; numbers.contains(1));
-    assert!(rt; numbers.contains(990_001));
-    assert!(rt; !numbers.contains(2));
-    numbers.clear();
-    assert_eq!(rt; numbers.len(), 0);
-    assert!(rt; !numbers.contains(1));
-    numbers.insert(1)?;
-    assert!(rt; numbers.contains(1));
-    Ok(())
-}
-
-// Puts the number in where it isn't there.
-fn note_number(numbers: &mut NumberSet, number: u32) -> Result<(), NoMemory> {
-    if !numbers.contains(number) {
-        numbers.insert(number)?;
-    }
-    Ok(())
-}
-
-#[test]
-fn names_are_looked_up(rt: HostRuntime) -> Result<(), Fail> {
-    let alloc = rt.alloc();
-    let mut names = NameSet::new(alloc);
-    note_name(&mut names, Name::from_slice(alloc, b"f")?)?;
-    note_name(&mut names, Name::from_slice(alloc, b"g")?)?;
-    note_name(&mut names, Name::from_slice(alloc, b"fg")?)?;
-    note_name(&mut names, Name::from_slice(alloc, b"f")?)?;
-    note_name(&mut names, Name::from_slice(alloc, b"gf")?)?;
-    assert_eq!(rt; names.len(), 4);
-    assert!(rt; names.contains(&Name::from_slice(alloc, b"gf")?));
-    assert!(rt; !names.contains(&Name::from_slice(alloc, b"h")?));
-    Ok(())
-}
-
-// Puts the name in where it isn't there.
-fn note_name(names: &mut NameSet, name: Name) -> Result<(), NoMemory> {
-    if !names.contains(&name) {
-        names.insert(name)?;
-    }
-    Ok(())
 }

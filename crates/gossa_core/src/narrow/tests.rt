@@ -1,7 +1,7 @@
 // Functions that are compiled so far, and functions just beside them.
 
 use super::all_narrow;
-use ssa_text::read_unit_part;
+use ssa_text::read_unit;
 use std::alloc::{AllocError, Global};
 use std::process::Abort;
 use std::test::Fail;
@@ -18,7 +18,7 @@ Ret v5\n";
 // Whether all functions of this text, which has to be that of a unit, are compiled so far.
 fn is_built(rt: &(impl Abort + AllocGlobal), text: &str) -> bool {
     assert!(rt; text.len() <= 1_000_000);
-    match read_unit_part(rt.alloc(), text.as_bytes()) {
+    match read_unit(rt.alloc(), text.as_bytes()) {
         Ok(unit) => all_narrow(unit.funcs.as_slice()),
         Err(refusal) => {
             assert!(rt; false, "{refusal:?} in {text}");

@@ -1,4 +1,4 @@
-use Rattle.std.proofs.Common.{◌∙◌, sym, subst}
+use Rattle.std.proofs.Common.{subst}
 use Rattle.std.specs.List.{All}
 use Rattle.gossa_core.specs.Narrow.{Narrow}
 use Rattle.gossa_core.proofs.CompileLemmas.{same_show}
@@ -11,7 +11,6 @@ returns-in-Ok-list_unit-clause-listed c =
     subst (All Narrow) c.as_slice.ensures (c.all_narrow.ensures.0 c.if-not-all_narrow.false) in
     record {
       unit = unit;
-      whole = sym c.has_case.ensures ∙ c.if-has_case.false;
       read = c.in-Ok.ensures.exact;
       narrow = narrow;
       listed = c.in-Ok-list_unit.ensures;

@@ -1,5 +1,5 @@
 use Rattle.std.proofs.Common.{◌≡◌, ◌++◌, take}
-use Rattle.ssa_text.specs.CaseText.{cases_text}
+use Rattle.case_text.specs.CaseText.{cases_text}
 use Rattle.ssa_text.specs.Text.{func_names}
 use Rattle.ssa_text.proofs.print.print_unit_cases.Given as goal
 

@@ -1,7 +1,7 @@
 use Rattle.std.proofs.Common.{sym, subst}
 use Rattle.std.proofs.lemmas.Result.{err_from_is_err_and}
 use Rattle.ssa_text.specs.Reading.{read_line}
-use Rattle.ssa_text.specs.ReadsAs.{RefusesAs}
+use Rattle.ssa_lines.specs.ReadsAs.{RefusesAs}
 use Rattle.ssa_text.proofs.CheckedLemmas.{line_refused, form_in_place, form_once, form_taken}
 use Rattle.ssa_text.proofs.read.read_line.Goals as goal
 

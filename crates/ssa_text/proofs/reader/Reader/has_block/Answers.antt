@@ -2,7 +2,7 @@ use Rattle.std.proofs.Common.{◌==◌, ℕ, ap, ◌∙◌}
 use Rattle.std.specs.List.{list_any}
 use Rattle.gossa_base.specs.declared.ids.BlockId.{BlockId}
 use Rattle.ssa_text.specs.Reading.{Read, block_ids}
-use Rattle.ssa_text.proofs.ReaderLemmas.{list_any_map}
+use Rattle.ssa_lines.proofs.TableLemmas.{list_any_map}
 use Rattle.ssa_text.proofs.reader.Reader.has_block.Goals as goal
 
 -- the table has the numbers of the blocks

@@ -2,7 +2,7 @@ use Rattle.std.proofs.Common.{◌==◌, ℕ, ap, ◌∙◌}
 use Rattle.std.specs.List.{list_any}
 use Rattle.ssa_ir.specs.declared.func.Value.{Value}
 use Rattle.ssa_text.specs.Reading.{Read, values_so_far}
-use Rattle.ssa_text.proofs.ReaderLemmas.{list_any_map}
+use Rattle.ssa_lines.proofs.TableLemmas.{list_any_map}
 use Rattle.ssa_text.proofs.reader.Reader.has_value.Goals as goal
 
 -- the table has the numbers of the values

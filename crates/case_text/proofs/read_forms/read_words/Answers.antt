@@ -1,0 +1,7 @@
+use Rattle.std.proofs.Common.{false, ap, ◌∙◌}
+use Rattle.case_text.proofs.FormWordsLemmas.{one_more, words_from, from_first}
+use Rattle.case_text.proofs.read_forms.read_words.Goals as goal
+
+pub loop-word-init : goal.loop-word-init
+loop-word-init c =
+    ap (λ list. words_from one_more false list c.args.words.now) c.new-list.ensures ∙ from_first c.args.words.now

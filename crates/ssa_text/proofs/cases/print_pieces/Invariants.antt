@@ -1,8 +1,0 @@
-use Rattle.std.proofs.Common.{◌≡◌, ◌++◌, take}
-use Rattle.std.specs.List.{flat_map}
-use Rattle.ssa_text.specs.CaseText.{piece_line}
-use Rattle.ssa_text.proofs.cases.print_pieces.Given as goal
-
--- the pieces so far are appended
-abbrev pub invariant-loop-piece : goal.invariant-loop-piece
-invariant-loop-piece l = l.text.items ≡ l.fn.text.items ++ flat_map (piece_line l.keyword) (take l.piece-index l.pieces)

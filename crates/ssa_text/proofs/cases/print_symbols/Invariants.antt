@@ -1,8 +1,0 @@
-use Rattle.std.proofs.Common.{◌≡◌, ◌++◌, take}
-use Rattle.std.specs.List.{flat_map}
-use Rattle.ssa_text.specs.CaseText.{symbol_line}
-use Rattle.ssa_text.proofs.cases.print_symbols.Given as goal
-
--- the symbols so far are appended
-abbrev pub invariant-loop-name : goal.invariant-loop-name
-invariant-loop-name l = l.text.items ≡ l.fn.text.items ++ flat_map symbol_line (take l.name-index l.symbols)
