@@ -1,2 +1,3 @@
 mod WholeLemmas
 pub mod MemoryLemmas
+pub mod WordLemmas

@@ -28,6 +28,7 @@ pub mod print;
 pub mod sequence;
 pub mod std_streams;
 pub mod whole;
+pub mod words;
 
 pub use ids::{BlockId, ValueId};
 pub use mem_sink::MemSink;
@@ -41,6 +42,7 @@ pub use print::{
 pub use sequence::{Bytes, Sequence};
 pub use std_streams::{StdSink, StdSource};
 pub use whole::{ReadRefusal, read_all, write_all};
+pub use words::{low, sext};
 
 #[cfg(test)]
 mod tests;

@@ -1,6 +1,8 @@
 pub mod AllOps
 pub mod ArgumentPlaces
+pub mod Arithmetic
 pub mod BoundsChecked
+pub mod Conditions
 pub mod Edges
 pub mod Evaluation
 pub mod FirstOrder

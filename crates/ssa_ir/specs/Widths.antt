@@ -2,6 +2,8 @@
 use Rattle.std.specs.Prelude.{ℕ}
 use Rattle.ssa_ir.specs.declared.op.Width.{Width}
 use Rattle.ssa_ir.specs.declared.op.Width.TheVariants.{W8, W16, W32, W64}
+use Rattle.ssa_ir.specs.declared.op.WidthPair.{WidthPair}
+use Rattle.ssa_ir.specs.declared.op.WidthPair.TheVariants.{W8W16, W8W32, W8W64, W16W32, W16W64, W32W64}
 use Rattle.ssa_ir.specs.declared.types.Scalar.{Scalar}
 use Rattle.ssa_ir.specs.declared.types.Scalar.TheVariants.{I8, I16, I32, I64, U8, U16, U32, U64, Uintptr, Bool, Ptr}
 use Rattle.ssa_ir.specs.declared.types.Ty.{Ty}
@@ -12,6 +14,23 @@ bits W8 = 8
 bits W16 = 16
 bits W32 = 32
 bits W64 = 64
+
+-- the smaller and the greater width of two
+abbrev pub narrow_of : WidthPair → Width
+narrow_of W8W16 = W8
+narrow_of W8W32 = W8
+narrow_of W8W64 = W8
+narrow_of W16W32 = W16
+narrow_of W16W64 = W16
+narrow_of W32W64 = W32
+
+abbrev pub wide_of : WidthPair → Width
+wide_of W8W16 = W16
+wide_of W8W32 = W32
+wide_of W8W64 = W64
+wide_of W16W32 = W32
+wide_of W16W64 = W64
+wide_of W32W64 = W64
 
 -- a bool is a byte, and a pointer a word
 abbrev pub scalar_bits : Scalar → ℕ

@@ -13,7 +13,8 @@
 //! [`op_row`] is the table of ops: how many arguments each takes, what its brackets or braces hold, and whether it reads
 //! or makes a memory. `specs/WellFormed.antt` says what a well-formed unit is.
 //!
-//! Known limits: what an op computes is defined for the sum, constants and parameters alone.
+//! Known limits: what each pure op computes is defined, but a run takes only constants, sums, parameters and results: one that
+//! comes to another op ends stuck.
 #![tactic(auto)]
 
 pub mod abi;
