@@ -1,0 +1,12 @@
+use Rattle.std.proofs.Common.{MatchOption, sym, subst}
+use Rattle.ssa_check.specs.declared.refusal.Check.TheVariants.{Callee}
+use Rattle.ssa_check.specs.Failing.{Meets, LeastPlace}
+use Rattle.ssa_check.proofs.CalleeLemmas.{callee_place}
+use Rattle.ssa_check.proofs.callees.callee_fault.Goals as goal
+
+pub returns : goal.returns
+returns c =
+    let u = c.args.unit.now in
+    let f = c.args.func.now in
+    subst (λ o. MatchOption o (Meets Callee u f) (LeastPlace Callee u f)) (sym c.value_place.ensures)
+    (callee_place u f c.lowest_value.result c.lowest_value.ensures)

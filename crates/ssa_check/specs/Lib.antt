@@ -1,0 +1,15 @@
+pub mod BlockChecks
+pub mod CalleeCheck
+pub mod Classes
+pub mod Cycles
+pub mod EdgeTables
+pub mod Failing
+pub mod Items
+pub mod OpTypes
+pub mod ParameterTables
+pub mod Selects
+pub mod SignatureTable
+pub mod Tables
+pub mod Uses
+pub mod ValueChecks
+pub mod Walks

@@ -1,0 +1,66 @@
+// Values of a block that wait for each other.
+
+ghost use Rattle.std.specs.Prelude.{◌≡◌, MatchOption, IfOk};
+ghost use Rattle.std.specs.List.{Any};
+ghost use Rattle.ssa_ir.specs.declared.func.SsaUnit.{SsaUnit as IrUnit};
+ghost use Rattle.ssa_ir.specs.WellFormed.{WellFormedFunc};
+ghost use Rattle.ssa_check.specs.declared.refusal.Check.TheVariants as check;
+ghost use Rattle.ssa_check.specs.Failing.{Meets, LeastPlace};
+ghost use Rattle.ssa_check.specs.Items as spec;
+ghost use Rattle.ssa_check.specs.Tables.{places_of};
+
+pub(crate) mod loops;
+mod ranks;
+
+use crate::items::Items;
+use crate::lowest::value_place;
+use crate::refusal::At;
+use crate::values::ValueTable;
+use gossa_base::NoMemory;
+use ssa_ir::Func;
+use std::alloc::Global;
+
+// The lower of two numbers, where there are two.
+fn lower_of(before: Option<u32>, number: Option<u32>) -> Option<u32>
+    ensures { result ≡ spec.lower_of before number }
+{
+    match (before, number) {
+        (Some(lowest), Some(other)) if other < lowest => Some(other),
+        (Some(lowest), _) => Some(lowest),
+        (None, other) => other,
+    }
+}
+
+// The lowest number of the values that are on a cycle of their block.
+fn lowest_on_cycle(alloc: Global, func: &Func, table: &ValueTable) -> Result<Option<u32>, NoMemory>
+    requires well_formed { WellFormedFunc func.now }
+    requires of_func { table.now ≡ places_of func.now }
+    requires arity { (u : IrUnit) → Meets check.Arity u func.now }
+    ensures { IfOk result (λ lowest. spec.IsLeast lowest (λ n. Any (λ b. spec.IsOnCycle b.values n) func.now.blocks)) }
+{
+    let mut lowest = None;
+    for (index, block) in func.blocks.as_slice().iter().enumerate() {
+        let items = Items {
+            values: block.values.as_slice(),
+            block: index,
+            table,
+        };
+        lowest = lower_of(lowest, items.lowest_on_cycle(alloc)?);
+    }
+    Ok(lowest)
+}
+
+// The least value at which the check Cycle fails, in a function whose values have their numbers of arguments.
+pub(crate) fn cycle_fault(
+    alloc: Global,
+    func: &Func,
+    table: &ValueTable,
+) -> Result<Option<At>, NoMemory>
+    requires well_formed { WellFormedFunc func.now }
+    requires of_func { table.now ≡ places_of func.now }
+    requires arity { (u : IrUnit) → Meets check.Arity u func.now }
+    ensures { (u : IrUnit) → IfOk result (λ found. MatchOption found (Meets check.Cycle u func.now) (LeastPlace check.Cycle u func.now)) }
+{
+    let lowest = lowest_on_cycle(alloc, func, table)?;
+    Ok(value_place(lowest))
+}

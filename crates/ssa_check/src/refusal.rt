@@ -1,0 +1,45 @@
+// The checks, the places of a function, and why a unit is refused.
+
+use gossa_base::{BlockId, ValueId};
+
+/// What every function of a unit must meet, in the order in which it is asked.
+#[derive(Clone, Copy, Debug, PartialEq, Eq)]
+pub enum Check {
+    /// There is a block, and the first has no predecessors.
+    Entry,
+    /// Each edge stands as often with its target as with its source.
+    Edges,
+    /// A Phi has one argument for each predecessor, and none stands in the entry.
+    PhiArity,
+    /// Each other op has its number of arguments.
+    Arity,
+    /// Arguments and results have the classes of their op.
+    Types,
+    /// There is one InitMem, and each Arg has the number and the class of a parameter, which no other Arg has; all stand in
+    /// the entry.
+    ArgOrInit,
+    /// Calls and their selects are those of the callee's signature.
+    Callee,
+    /// No values of a block but phis wait for each other.
+    Cycle,
+    /// Each block ends by what its kind takes.
+    Control,
+}
+
+/// A place in a function: the function itself, a value, or a block. Places are ordered so: the function, then its values by
+/// number, then its blocks by number.
+#[derive(Clone, Copy, Debug, PartialEq, Eq)]
+pub enum At {
+    Func,
+    Value(ValueId),
+    Block(BlockId),
+}
+
+/// The first fault of a unit: the first function that has one, by its number from 0, its first check that fails, and the
+/// least place at which it does.
+#[derive(Clone, Copy, Debug, PartialEq, Eq)]
+pub struct Fault {
+    pub func: u32,
+    pub check: Check,
+    pub at: At,
+}
