@@ -25,7 +25,7 @@ registers_are regs [] = refl
 registers_are regs (f ∷ funcs) = ap (λ l. regs ∷ l) (registers_are regs funcs)
 
 -- function i is narrow
-narrow_at : (funcs : List Func) (i : ℕ) (f : Func) → All Narrow funcs → slice_get funcs i ≡ Some f → Narrow f
+pub narrow_at : (funcs : List Func) (i : ℕ) (f : Func) → All Narrow funcs → slice_get funcs i ≡ Some f → Narrow f
 narrow_at funcs i f all at =
     subst Narrow (get_or_from_slice_get funcs i f f at) (all i f (slice_get_within funcs i f at))
 

@@ -7,15 +7,19 @@ use Rattle.ssa_ir.specs.declared.func.SsaUnit.{SsaUnit}
 use Rattle.ssa_text.specs.UnitReading.{read_unit}
 use Rattle.ssa_lines.specs.declared.refusal.TextRefusal.{TextRefusal}
 use Rattle.ssa_lines.specs.declared.refusal.TextRefusal.TheVariants.{NoMemory as Wanting}
+use Rattle.gossa_core.specs.declared.status.CheckFault.{CheckFault}
 use Rattle.gossa_core.specs.declared.status.Status.{Status}
 use Rattle.gossa_core.specs.declared.status.Status.TheVariants.{Done as IsDone, NoMemory as IsNoMemory}
 use Rattle.gossa_core.specs.declared.status.Outcome.{Outcome}
-use Rattle.gossa_core.specs.declared.status.Outcome.TheVariants.{Done, NotBuilt, TooLong, Text, Usage, ReadFault, WriteFault, NoMemory}
+use Rattle.gossa_core.specs.declared.status.Outcome.TheVariants.{Done, NotBuilt, TooLong, Text, Check, Usage, ReadFault, WriteFault, NoMemory}
 use Rattle.gossa_core.specs.declared.words.Command.{Command}
 use Rattle.gossa_core.specs.declared.words.Command.TheVariants.{Compile}
-use Rattle.gossa_core.specs.Answer.{World, status_of, input_limit, IsUnbuilt, TextCause, CompileCause, Cause, IsComplete}
+use Rattle.gossa_core.specs.Answer.{World, status_of, input_limit, CompileCause, Cause, IsComplete}
 use Rattle.gossa_core.specs.Narrow.{Narrow}
+use Rattle.gossa_core.specs.Unlisted.{FailsCheck, IsFirstFault, IsUnbuilt, Misspells}
 use Rattle.gossa_core.specs.Words.{command_of}
+use Rattle.gossa_core.proofs.NarrowAccepted.{narrow_accepted}
+use Rattle.gossa_core.proofs.CompileLemmas.{narrow_at}
 
 -- a text that was read whole is all that was left
 whole_is : (left after : Option (List ℕ)) (text bytes : List ℕ) → left ≡ Some text → Consumes left after bytes
@@ -53,15 +57,23 @@ built text h other =
     other.other (subst (λ u. All Narrow u.funcs)
     (one_unit (read_unit text) h.unit other.unit h.read other.read) h.narrow)
 
--- and isn't refused, but for want of memory
-complete_by_refusal : (refusal : TextRefusal) (before after : World) (status : Status)
-    → status ≡ status_of (Text refusal)
-    → TextCause refusal before after → (text : List ℕ) → before.left ≡ Some text → SpellsNarrow text
-    → (status ≡ IsDone) ⊎ (status ≡ IsNoMemory)
-complete_by_refusal Wanting before after status e c text left h = inr e
-complete_by_refusal refusal before after status e c text left h =
-    let same = whole_is before.left after.left text c.text left c.read.all c.read.end in
-    absurd (unrefused (read_unit text) h.unit refusal h.read (sym (ap read_unit same) ∙ c.refused))
+-- and isn't refused
+unmisspelled : (text : List ℕ) (refusal : TextRefusal) → SpellsNarrow text → Misspells text refusal → ⊥
+unmisspelled text Wanting h bad = bad
+unmisspelled text refusal h bad = unrefused (read_unit text) h.unit refusal h.read bad
+
+-- narrow functions fail no check
+unfailing : (u : SsaUnit) (told : CheckFault) → All Narrow u.funcs → IsFirstFault u told → ⊥
+unfailing u told narrow bad =
+    let first = bad.first in
+    let func = narrow_at u.funcs bad.fault.func first.func narrow first.is_its in
+    narrow_accepted u first.func func bad.fault.check bad.fault.at first.fault_of.place.fails
+
+-- so its unit fails none
+passing : (text : List ℕ) (told : CheckFault) → SpellsNarrow text → FailsCheck text told → ⊥
+passing text told h bad =
+    unfailing bad.unit told (subst (λ u. All Narrow u.funcs)
+    (one_unit (read_unit text) h.unit bad.unit h.read bad.read) h.narrow) bad.first
 
 complete_by_outcome : (regs : ℕ) (before after : World) (status : Status) (outcome : Outcome)
     → status ≡ status_of outcome
@@ -76,7 +88,11 @@ complete_by_outcome regs before after status NotBuilt e c no_read no_write text 
 complete_by_outcome regs before after status TooLong e c no_read no_write text left few h =
     absurd (omega (arith, read_within before.left after.left text c.read.bytes left c.read.read, c.read.past, few))
 complete_by_outcome regs before after status (Text refusal) e c no_read no_write text left few h =
-    complete_by_refusal refusal before after status e c text left h
+    absurd (unmisspelled text refusal h (subst (λ t. Misspells t refusal)
+    (whole_is before.left after.left text c.text left c.read.all c.read.end) c.refused))
+complete_by_outcome regs before after status (Check fault) e c no_read no_write text left few h =
+    absurd (passing text fault h (subst (λ t. FailsCheck t fault)
+    (whole_is before.left after.left text c.text left c.read.all c.read.end) c.refused))
 complete_by_outcome regs before after status Usage e c no_read no_write text left few h = absurd c
 complete_by_outcome regs before after status ReadFault e c no_read no_write text left few h =
     absurd (no_read c.faulted)

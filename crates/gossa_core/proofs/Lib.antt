@@ -2,6 +2,12 @@ mod CodeFactsLemmas
 mod CompileLemmas
 mod CompleteLemmas
 mod MachineLemmas
+mod NarrowAccepted
+mod NarrowChecks
+mod NarrowClasses
+mod NarrowControls
+mod NarrowCycles
+mod NarrowInputs
 mod NarrowLemmas
 mod NarrowRun
 mod NarrowTestLemmas

@@ -8,22 +8,25 @@ use Rattle.ssa_ir.specs.declared.func.SsaUnit.{SsaUnit}
 use Rattle.case_text.specs.CaseText.{cases_text}
 use Rattle.ssa_text.specs.Text.{func_names}
 use Rattle.ssa_text.specs.UnitReading.{read_unit}
-use Rattle.ssa_lines.specs.ReadsAs.{RefusesAs}
 use Rattle.ssa_lines.specs.declared.refusal.TextRefusal.{TextRefusal}
 use Rattle.ssa_lines.specs.declared.refusal.TextRefusal.TheVariants.{NoMemory as Wanting}
+use Rattle.ssa_check.specs.Failing.{Accepted}
 use Rattle.listing.specs.SameShow.{SameShow}
 use Rattle.listing.specs.Text.{listings_text}
 use Rattle.listing.specs.declared.code.Listings.{Listings}
+use Rattle.gossa_core.specs.declared.status.CheckFault.{CheckFault}
 use Rattle.gossa_core.specs.declared.status.Status.{Status}
 use Rattle.gossa_core.specs.declared.status.Status.TheVariants.{Done as IsDone, Refused as IsRefused, Usage as IsUsage, ReadFault as IsReadFault, WriteFault as IsWriteFault, NoMemory as IsNoMemory}
 use Rattle.gossa_core.specs.declared.status.Outcome.{Outcome}
-use Rattle.gossa_core.specs.declared.status.Outcome.TheVariants.{Done, NotBuilt, TooLong, Text, Usage, ReadFault, WriteFault, NoMemory}
+use Rattle.gossa_core.specs.declared.status.Outcome.TheVariants.{Done, NotBuilt, TooLong, Text, Check, Usage, ReadFault, WriteFault, NoMemory}
 use Rattle.gossa_core.specs.declared.words.Command.{Command}
 use Rattle.gossa_core.specs.declared.words.Command.TheVariants.{Compile}
 use Rattle.gossa_core.specs.Words.{command_of}
 use Rattle.gossa_core.specs.Narrow.{Narrow}
 use Rattle.gossa_core.specs.Plain.{plain_listing}
+use Rattle.gossa_core.specs.CheckText.{check_line}
 use Rattle.gossa_core.specs.RefusalText.{refusal_line}
+use Rattle.gossa_core.specs.Unlisted.{FailsCheck, IsUnbuilt, Misspells}
 
 -- what stands outside at one moment: the bytes that the source has left and those that the sink holds, where they tell
 -- them, and how many faults each has met
@@ -45,6 +48,7 @@ status_of NotBuilt = IsRefused
 status_of TooLong = IsRefused
 status_of (Text Wanting) = IsNoMemory
 status_of (Text refusal) = IsRefused
+status_of (Check fault) = IsRefused
 status_of Usage = IsUsage
 status_of ReadFault = IsReadFault
 status_of WriteFault = IsWriteFault
@@ -56,6 +60,7 @@ line_of Done = []
 line_of NotBuilt = codes "gossa: not built\n"
 line_of TooLong = codes "gossa: input too long\n"
 line_of (Text refusal) = refusal_line refusal
+line_of (Check fault) = check_line fault
 line_of Usage = codes "usage: gossa compile [-regs=N] | run | step | demo SEED SIZE\n"
 line_of ReadFault = codes "gossa: read failed\n"
 line_of WriteFault = codes "gossa: write failed\n"
@@ -73,27 +78,15 @@ listings_of regs u = record { sigs = u.sigs; funcs = map (plain_listing regs) u.
 abbrev pub output_of : (regs : ℕ) → SsaUnit → List ℕ
 output_of regs u = listings_text (listings_of regs u) ++ cases_text (func_names u.funcs) u.cases
 
--- the text spells a unit of narrow functions; the output is exactly the canonical text of the plain allocation's listings of
--- it, with its cases behind them, and the listings show what the unit shows
+-- the text spells an accepted unit of narrow functions; the output is exactly the canonical text of the plain allocation's
+-- listings of it, with its cases behind them, and the listings show what the unit shows
 pub record Compiles (regs : ℕ) (text output : List ℕ) : Type 0 where
   pub unit : SsaUnit
   pub read : read_unit text ≡ Ok unit
+  pub accepted : Accepted unit
   pub narrow : All Narrow unit.funcs
   pub listed : output ≡ output_of regs unit
   pub shows : SameShow unit (listings_of regs unit)
-
--- a text that isn't compiled yet: it spells a unit of which not every function is narrow
-pub record IsUnbuilt (text : List ℕ) : Type 0 where
-  pub unit : SsaUnit
-  pub read : read_unit text ≡ Ok unit
-  pub other : ¬ All Narrow unit.funcs
-
--- why there are no listings of a text; want of memory alone is free
-abbrev pub Unlisted : List ℕ → Outcome → Type 0
-Unlisted text NotBuilt = IsUnbuilt text
-Unlisted text (Text refusal) = RefusesAs refusal (read_unit text)
-Unlisted text NoMemory = Unit {0}
-Unlisted text _ = ⊥
 
 -- nothing was written
 pub record NothingWritten (before after : World) : Type 0 where
@@ -124,7 +117,14 @@ pub record IsNotBuilt (before after : World) : Type 0 where
 pub record IsRefusedText (refusal : TextRefusal) (before after : World) : Type 0 where
   pub text : List ℕ
   pub read : ReadsWhole input_limit before.left after.left text
-  pub refused : read_unit text ≡ Err refusal
+  pub refused : Misspells text refusal
+  pub unwritten : NothingWritten before after
+
+-- the whole input was read, and this is the first fault of its unit
+pub record IsRefusedUnit (fault : CheckFault) (before after : World) : Type 0 where
+  pub text : List ℕ
+  pub read : ReadsWhole input_limit before.left after.left text
+  pub refused : FailsCheck text fault
   pub unwritten : NothingWritten before after
 
 -- byte `input_limit + 1` was read
@@ -152,17 +152,13 @@ pub record LacksMemory (before after : World) : Type 0 where
   pub read : ReadsWithin input_limit before.left after.left
   pub unwritten : NothingWritten before after
 
--- why `compile` refuses a text
-abbrev pub TextCause : TextRefusal → World → World → Type 0
-TextCause Wanting before after = LacksMemory before after
-TextCause refusal before after = IsRefusedText refusal before after
-
 -- why `compile` answers as it does
 abbrev pub CompileCause : (regs : ℕ) → World → World → Outcome → Type 0
 CompileCause regs before after Done = Finishes regs before after
 CompileCause regs before after NotBuilt = IsNotBuilt before after
 CompileCause regs before after TooLong = IsTooLong before after
-CompileCause regs before after (Text refusal) = TextCause refusal before after
+CompileCause regs before after (Text refusal) = IsRefusedText refusal before after
+CompileCause regs before after (Check fault) = IsRefusedUnit fault before after
 CompileCause regs before after Usage = ⊥
 CompileCause regs before after ReadFault = MeetsReadFault before after
 CompileCause regs before after WriteFault = MeetsWriteFault regs before after

@@ -1,4 +1,5 @@
 pub mod Answer
+pub mod CheckText
 pub mod Narrow
 pub mod NarrowTest
 pub mod Numbered
@@ -8,4 +9,5 @@ pub mod Plain
 pub mod RefusalText
 pub mod Row
 pub mod Status
+pub mod Unlisted
 pub mod Words

@@ -4,6 +4,8 @@ ghost use Rattle.std.specs.Prelude.{◌≡◌};
 ghost use Rattle.gossa_core.specs.Status.{number_of};
 ghost use Rattle.gossa_core.specs.Answer.{status_of};
 
+use gossa_base::Name;
+use ssa_check::{At, Check};
 use ssa_text::TextRefusal;
 
 /// How the program ends, by the number that its process ends with.
@@ -39,8 +41,16 @@ impl Status {
     }
 }
 
+/// The first fault of a unit that was read: the function's name, the check that it fails, and the place.
+#[derive(Clone, Drop, PartialEq, Eq)]
+pub struct CheckFault {
+    pub func: Name,
+    pub check: Check,
+    pub at: At,
+}
+
 /// Why the program ends: a status, and the reason for it.
-#[derive(Clone, Copy, Debug, PartialEq, Eq)]
+#[derive(Clone, Drop, PartialEq, Eq)]
 pub enum Outcome {
     /// All output was written.
     Done,
@@ -48,8 +58,10 @@ pub enum Outcome {
     NotBuilt,
     /// The input has more bytes than are read.
     TooLong,
-    /// The input is no text of a unit, and this is its first fault; or there was no memory for what it spells.
+    /// The input is no text of a unit, and this is its first fault. (The program answers want of memory by `NoMemory`.)
     Text(TextRefusal),
+    /// The input is a unit that fails a check, and this is its first fault.
+    Check(CheckFault),
     /// The words are no command.
     Usage,
     /// The input could not be read.
@@ -62,14 +74,14 @@ pub enum Outcome {
 
 impl Outcome {
     /// The status of this outcome.
-    pub fn status(self) -> Status
-        ensures { result ≡ status_of self }
+    pub fn status(&self) -> Status
+        ensures { result ≡ status_of self.now }
     {
         match self {
             Outcome::Done => Status::Done,
             Outcome::NotBuilt | Outcome::TooLong => Status::Refused,
             Outcome::Text(TextRefusal::NoMemory) => Status::NoMemory,
-            Outcome::Text(_) => Status::Refused,
+            Outcome::Text(_) | Outcome::Check(_) => Status::Refused,
             Outcome::Usage => Status::Usage,
             Outcome::ReadFault => Status::ReadFault,
             Outcome::WriteFault => Status::WriteFault,

@@ -1,21 +1,23 @@
 // What the error stream is told: one line, in pieces that take no memory.
 
-ghost use Rattle.std.specs.Prelude.{◌≡◌, OnOk, OnErr};
+ghost use Rattle.std.specs.Prelude.{◌≡◌, ◌≤◌, OnOk, OnErr};
 ghost use Rattle.std.specs.Io.KnownBytes.{Appends};
 ghost use Rattle.gossa_base.specs.Faults.{Faulted};
 ghost use Rattle.gossa_base.specs.Whole.{AppendsPrefix};
 ghost use Rattle.gossa_core.specs.Answer.{line_of, Tells};
+ghost use Rattle.gossa_core.specs.CheckText.{numbered, check_text, place_text, check_line};
 ghost use Rattle.gossa_core.specs.RefusalText.{limit_text, fault_line, refusal_line};
 
-use crate::status::Outcome;
-use gossa_base::{Failed, Sink, write_all};
+use crate::status::{CheckFault, Outcome};
+use gossa_base::{BlockId, Failed, Sink, write_all};
 use itoa::Buffer;
+use ssa_check::{At, Check};
 use ssa_text::{LimitKind, TextRefusal};
 
 /// The line of an outcome goes to the error stream, or a prefix of it where that stream fails. Nothing goes there where
 /// all went well.
-pub fn tell<E: Sink>(errs: &mut E, outcome: Outcome)
-    ensures { Tells (line_of outcome)
+pub fn tell<E: Sink>(errs: &mut E, outcome: &Outcome)
+    ensures { Tells (line_of outcome.now)
         (record { told = E.held errs.old; tell_faults = E.faults errs.old })
         (record { told = E.held errs.new; tell_faults = E.faults errs.new }) }
 {
@@ -23,16 +25,17 @@ pub fn tell<E: Sink>(errs: &mut E, outcome: Outcome)
 }
 
 // Writes the line of an outcome. Where that fails, a prefix of it was written; so do all functions here.
-fn write_line<E: Sink>(errs: &mut E, outcome: Outcome) -> Result<(), Failed>
-    ensures ok { OnOk result (Appends (E.held errs.old) (E.held errs.new) (line_of outcome)) }
+fn write_line<E: Sink>(errs: &mut E, outcome: &Outcome) -> Result<(), Failed>
+    ensures ok { OnOk result (Appends (E.held errs.old) (E.held errs.new) (line_of outcome.now)) }
     ensures fault { OnErr result (Faulted (E.faults errs.old) (E.faults errs.new)) }
-    ensures prefix { OnErr result (AppendsPrefix (E.held errs.old) (E.held errs.new) (line_of outcome)) }
+    ensures prefix { OnErr result (AppendsPrefix (E.held errs.old) (E.held errs.new) (line_of outcome.now)) }
 {
     match outcome {
         Outcome::Done => write_all(errs, b""),
         Outcome::NotBuilt => write_all(errs, b"gossa: not built\n"),
         Outcome::TooLong => write_all(errs, b"gossa: input too long\n"),
-        Outcome::Text(refusal) => write_refusal(errs, refusal),
+        Outcome::Text(refusal) => write_refusal(errs, *refusal),
+        Outcome::Check(fault) => write_check(errs, fault),
         Outcome::Usage => write_all(
             errs,
             b"usage: gossa compile [-regs=N] | run | step | demo SEED SIZE\n",
@@ -93,4 +96,55 @@ fn write_fault<E: Sink>(errs: &mut E, line: u32, fault: &[u8]) -> Result<(), Fai
     write_all(errs, b": ")?;
     write_all(errs, fault)?;
     write_all(errs, b"\n")
+}
+
+// Writes the first check that a unit fails: by which function, and where.
+fn write_check<E: Sink>(errs: &mut E, fault: &CheckFault) -> Result<(), Failed>
+    ensures ok { OnOk result (Appends (E.held errs.old) (E.held errs.new) (check_line fault.now)) }
+    ensures fault { OnErr result (Faulted (E.faults errs.old) (E.faults errs.new)) }
+    ensures prefix { OnErr result (AppendsPrefix (E.held errs.old) (E.held errs.new) (check_line fault.now)) }
+{
+    write_all(errs, b"gossa: ")?;
+    write_all(errs, fault.func.as_slice())?;
+    write_check_name(errs, fault.check)?;
+    write_place(errs, fault.at)?;
+    write_all(errs, b"\n")
+}
+
+// Writes the number of a check and its name.
+fn write_check_name<E: Sink>(errs: &mut E, check: Check) -> Result<(), Failed>
+    ensures ok { OnOk result (Appends (E.held errs.old) (E.held errs.new) (check_text check)) }
+    ensures fault { OnErr result (Faulted (E.faults errs.old) (E.faults errs.new)) }
+    ensures prefix { OnErr result (AppendsPrefix (E.held errs.old) (E.held errs.new) (check_text check)) }
+    ensures count { E.faults errs.old ≤ E.faults errs.new }
+{
+    write_numbered(errs, b": C", check.number())?;
+    write_all(errs, b" ")?;
+    write_all(errs, check.name())
+}
+
+// Writes where a check fails; of the function itself nothing more is said.
+fn write_place<E: Sink>(errs: &mut E, at: At) -> Result<(), Failed>
+    ensures ok { OnOk result (Appends (E.held errs.old) (E.held errs.new) (place_text at)) }
+    ensures fault { OnErr result (Faulted (E.faults errs.old) (E.faults errs.new)) }
+    ensures prefix { OnErr result (AppendsPrefix (E.held errs.old) (E.held errs.new) (place_text at)) }
+    ensures count { E.faults errs.old ≤ E.faults errs.new }
+{
+    match at {
+        At::Func => write_all(errs, b""),
+        At::Value(id) => write_numbered(errs, b" at v", id.0),
+        At::Block(BlockId { split: false, n }) => write_numbered(errs, b" at b", n),
+        At::Block(BlockId { split: true, n }) => write_numbered(errs, b" at e", n),
+    }
+}
+
+// Writes a number behind what it is the number of.
+fn write_numbered<E: Sink>(errs: &mut E, front: &[u8], number: u32) -> Result<(), Failed>
+    ensures ok { OnOk result (Appends (E.held errs.old) (E.held errs.new) (numbered front.now number)) }
+    ensures fault { OnErr result (Faulted (E.faults errs.old) (E.faults errs.new)) }
+    ensures prefix { OnErr result (AppendsPrefix (E.held errs.old) (E.held errs.new) (numbered front.now number)) }
+    ensures count { E.faults errs.old ≤ E.faults errs.new }
+{
+    write_all(errs, front)?;
+    write_all(errs, Buffer::new().format(number).as_bytes())
 }

@@ -229,7 +229,7 @@ fn check_outcome(
     line: &str,
 ) -> Result<(), NoMemory> {
     let mut errs = MemSink::new(rt.alloc(), 100, 4096, &[])?;
-    tell(&mut errs, outcome);
+    tell(&mut errs, &outcome);
     assert!(rt; outcome.status() == status);
     assert!(rt; status.number() == number);
     assert!(rt; errs.held() == line.as_bytes(), "{line}");
@@ -425,7 +425,13 @@ fn tells_which_stream_failed(rt: HostRuntime) -> Result<(), Fail> {
         told: b"gossa: not built",
         ..tell
     };
-    check_run(&rt, &["compile"], b"func f()", TELL_FAULT, not_built)?;
+    let exits = b"func f()\nb1:\nv1 = InitMem <mem>\nExit v1\n";
+    check_run(&rt, &["compile"], exits, TELL_FAULT, not_built)?;
+    let check = Wanted {
+        told: b"gossa: ",
+        ..tell
+    };
+    check_run(&rt, &["compile"], b"func f()", TELL_FAULT, check)?;
     check_listing(&rt, SUM, SUM_LISTING, TELL_FAULT)?;
     Ok(())
 }

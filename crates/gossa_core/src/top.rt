@@ -1,23 +1,29 @@
 // The top call: from words and bytes to bytes and a status.
 
-ghost use Rattle.std.specs.Prelude.{◌≡◌, ◌≤◌, length, map, IfOk, IfErr};
+ghost use Rattle.std.specs.Prelude.{◌≡◌, ◌≤◌, length, map, Ok, IfOk, IfErr};
 ghost use Rattle.std.specs.String.{string_bytes};
 ghost use Rattle.std.specs.List.{All};
+ghost use Rattle.ssa_ir.specs.WellFormed.{WellFormed};
+ghost use Rattle.ssa_text.specs.UnitReading as spelling;
+ghost use Rattle.ssa_check.specs.Failing.{Accepted, FirstFault};
 ghost use Rattle.gossa_core.specs.Narrow.{Narrow};
 ghost use Rattle.gossa_core.specs.Words.{command_of};
-ghost use Rattle.gossa_core.specs.Answer.{output_of, input_limit, Compiles, Unlisted, CompileCause, Cause, Answers, IsComplete};
+ghost use Rattle.gossa_core.specs.Answer.{output_of, input_limit, Compiles, CompileCause, Cause, Answers, IsComplete};
+ghost use Rattle.gossa_core.specs.Unlisted.{Unchecked, Unlisted};
 
 use crate::narrow::all_narrow;
 use crate::plain::allocate_all;
-use crate::status::{Outcome, Status};
+use crate::status::{CheckFault, Outcome, Status};
 use crate::telling::tell;
 use crate::words::{Command, read_words};
 use gossa_base::{
-    Bytes, Failed, NoMemory, ReadRefusal, Sequence, Sink, Source, put, read_all, write_all,
+    Bytes, Failed, Name, NoMemory, ReadRefusal, Sequence, Sink, Source, put, read_all, write_all,
 };
 use listing::{Listings, print_listing};
+use ssa_check::Fault;
+use ssa_check::check::first_fault;
 use ssa_ir::SsaUnit;
-use ssa_text::{print_unit_cases, read_unit};
+use ssa_text::{TextRefusal, print_unit_cases, read_unit};
 use std::alloc::Global;
 
 /// How many bytes `compile` reads at the most.
@@ -25,8 +31,8 @@ const INPUT_LIMIT: usize = 8_388_608;
 
 /// Does what the words say: reads `source`, writes to `sink`, and one line to `errs` where that went wrong.
 ///
-/// The words are looked at first, then the input is read to its end, then it is judged and compiled, and then all
-/// output is written. So nothing is in `sink` unless the answer is `Done` or `WriteFault`.
+/// The words are looked at first, then the input is read to its end, then the unit that it spells is checked, judged and
+/// compiled, and then all output is written. So nothing is in `sink` unless the answer is `Done` or `WriteFault`.
 pub fn gossa<S: Source, K: Sink, E: Sink>(
     alloc: Global,
     words: &[String],
@@ -46,7 +52,7 @@ pub fn gossa<S: Source, K: Sink, E: Sink>(
         result }
 {
     let outcome = run(alloc, words, source, sink);
-    tell(errs, outcome);
+    tell(errs, &outcome);
     outcome.status()
 }
 
@@ -95,10 +101,7 @@ fn compile_text(alloc: Global, text: &[u8], regs: u32) -> Result<Bytes, Outcome>
     ensures listed { IfOk result (λ output. Compiles regs text.now output) }
     ensures unlisted { IfErr result (λ outcome. Unlisted text.now outcome) }
 {
-    let unit = match read_unit(alloc, text) {
-        Ok(unit) => unit,
-        Err(refusal) => return Err(Outcome::Text(refusal)),
-    };
+    let unit = read_checked(alloc, text)?;
     if !all_narrow(unit.funcs.as_slice()) {
         return Err(Outcome::NotBuilt);
     }
@@ -106,6 +109,68 @@ fn compile_text(alloc: Global, text: &[u8], regs: u32) -> Result<Bytes, Outcome>
         Ok(output) => Ok(output),
         Err(NoMemory) => Err(Outcome::NoMemory),
     }
+}
+
+// The unit that this text spells and that all checks accept, or how the program ends without one.
+fn read_checked(alloc: Global, text: &[u8]) -> Result<SsaUnit, Outcome>
+    requires few { length text.now ≤ input_limit }
+    ensures spelled { IfOk result (λ unit. spelling.read_unit text.now ≡ Ok unit) }
+    ensures accepted { IfOk result Accepted }
+    ensures unlisted { IfErr result (λ outcome. Unlisted text.now outcome) }
+{
+    let unit = read_text(alloc, text)?;
+    check_unit(alloc, &unit)?;
+    Ok(unit)
+}
+
+// The unit that this text spells, or how the program ends without one.
+fn read_text(alloc: Global, text: &[u8]) -> Result<SsaUnit, Outcome>
+    requires few { length text.now ≤ input_limit }
+    ensures spelled { IfOk result (λ unit. spelling.read_unit text.now ≡ Ok unit) }
+    ensures well_formed { IfOk result WellFormed }
+    ensures unlisted { IfErr result (λ outcome. Unlisted text.now outcome) }
+{
+    match read_unit(alloc, text) {
+        Ok(unit) => Ok(unit),
+        Err(TextRefusal::NoMemory) => Err(Outcome::NoMemory),
+        Err(refusal) => Err(Outcome::Text(refusal)),
+    }
+}
+
+// Asks the checks of a unit: it is accepted, or this is how the program ends.
+fn check_unit(alloc: Global, unit: &SsaUnit) -> Result<(), Outcome>
+    requires { WellFormed unit.now }
+    ensures accepted { IfOk result (λ done. Accepted unit.now) }
+    ensures unchecked { IfErr result (λ outcome. Unchecked unit.now outcome) }
+{
+    match first_fault(alloc, unit) {
+        Ok(None) => Ok(()),
+        Ok(Some(fault)) => Err(name_fault(unit, fault)),
+        Err(NoMemory) => Err(Outcome::NoMemory),
+    }
+}
+
+// The first fault of a unit as an outcome, with the name of its function.
+fn name_fault(unit: &SsaUnit, fault: Fault) -> Outcome
+    requires { FirstFault unit.now fault }
+    ensures { Unchecked unit.now result }
+{
+    let func = &unit.funcs.as_slice()[fault.func as usize];
+    match same_name(&func.sig.name) {
+        Ok(func) => Outcome::Check(CheckFault {
+            func,
+            check: fault.check,
+            at: fault.at,
+        }),
+        Err(NoMemory) => Outcome::NoMemory,
+    }
+}
+
+// The same name once more.
+fn same_name(name: &Name) -> Result<Name, NoMemory>
+    ensures { IfOk result (λ same. same ≡ name.now) }
+{
+    Ok(name.clone()?)
 }
 
 // The listings of a unit of narrow functions, and behind them its cases.

@@ -24,7 +24,7 @@ fn main(rt: HostRuntime) -> ExitCode {
             )
         }
         Err(NoMemory) => {
-            tell(&mut errs, Outcome::NoMemory);
+            tell(&mut errs, &Outcome::NoMemory);
             Outcome::NoMemory.status()
         }
     };

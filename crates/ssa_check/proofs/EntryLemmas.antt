@@ -1,5 +1,5 @@
 -- A first block without predecessors meets the check Entry: no other block has its number.
-use Rattle.std.proofs.Common.{◌≡◌, ℕ, zero, suc, ◌==◌, Bool, true, false, not, ◌||◌, List, [], ◌∷◌, length, map, Option, Some, slice_get, subst, sym, ap, ◌∙◌, arith}
+use Rattle.std.proofs.Common.{◌≡◌, zero, suc, ◌==◌, true, false, not, ◌||◌, List, [], ◌∷◌, length, map, Some, slice_get, subst, sym, ap, ◌∙◌, arith}
 use Rattle.std.specs.List.{Any}
 use Rattle.std.proofs.Math.Dec.{eqb-suc-zero}
 use Rattle.std.proofs.lemmas.Bool.{and_parts, or_parts, not-false, not_from_false, eqb-true}
@@ -10,7 +10,6 @@ use Rattle.ssa_ir.specs.declared.func.Func.{Func}
 use Rattle.ssa_ir.specs.declared.func.SsaUnit.{SsaUnit}
 use Rattle.ssa_ir.specs.Edges.{same_block}
 use Rattle.ssa_ir.specs.WellFormed.{Differ, WellFormedFunc}
-use Rattle.ssa_check.specs.declared.refusal.At.{At}
 use Rattle.ssa_check.specs.declared.refusal.At.TheVariants.{Func as AtFunc, Value as AtValue, Block as AtBlock}
 use Rattle.ssa_check.specs.declared.refusal.Check.TheVariants.{Entry}
 use Rattle.ssa_check.specs.Failing.{Meets}

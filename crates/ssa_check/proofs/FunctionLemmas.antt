@@ -1,12 +1,10 @@
 -- The functions of a unit one after the other: those so far meet all checks, or one is the first that doesn't.
 use Rattle.std.proofs.Common.{◌≡◌, ℕ, zero, suc, ◌+◌, ◌<◌, Bool, true, false, List, [], ◌∷◌, length, ◌≤◌, get_or, slice_get, Option, None, Some, MatchOption, eqb, refl, sym, ap, subst, ◌∙◌, arith}
-use Rattle.std.specs.List.{All}
 use Rattle.std.proofs.lemmas.Bool.{eqb-true, eqb-false}
 use Rattle.ssa_ir.specs.declared.func.Func.{Func}
 use Rattle.ssa_ir.specs.declared.func.SsaUnit.{SsaUnit}
 use Rattle.ssa_ir.specs.WellFormed.{WellFormed, WellFormedFunc}
 use Rattle.ssa_check.specs.declared.check.Found.{Found}
-use Rattle.ssa_check.specs.declared.refusal.Fault.{Fault}
 use Rattle.ssa_check.specs.Failing.{Accepted, FirstFault, FirstFaultOf, MeetsAll}
 
 item_there : {X : Type 0} (xs : List X) (k : ℕ) (d : X) → k < length xs → slice_get xs k ≡ Some (get_or xs k d)

@@ -1,6 +1,5 @@
 -- What the check of calls and their selects asks: both are those of the callee's signature.
-use Rattle.std.specs.Prelude.{ℕ, ℤ, pos, negsuc, ◌==◌, nat_lt, Bool, true, false, not, ◌&&◌, ◌||◌, List, [], ◌∷◌, ◌++◌, map, Option, None, Some, slice_get}
-use Rattle.std.specs.Cmp.Lexicographic.{pointwise}
+use Rattle.std.specs.Prelude.{ℕ, ℤ, pos, negsuc, Bool, false, not, ◌&&◌, ◌||◌, List, [], ◌∷◌, ◌++◌, map, Option, None, Some, slice_get}
 use Rattle.std.specs.List.{list_any}
 use Rattle.std.specs.Ordering.{int_eq}
 use Rattle.gossa_base.specs.declared.ids.ValueId.{ValueId}
@@ -10,7 +9,7 @@ use Rattle.ssa_ir.specs.declared.func.Block.{Block}
 use Rattle.ssa_ir.specs.declared.func.Func.{Func}
 use Rattle.ssa_ir.specs.declared.func.SsaUnit.{SsaUnit}
 use Rattle.ssa_ir.specs.declared.func.Value.{Value}
-use Rattle.ssa_ir.specs.FirstOrder.{has_value, is_call, is_follower, same_value, selects}
+use Rattle.ssa_ir.specs.FirstOrder.{has_value, is_call, is_follower, selects}
 use Rattle.ssa_ir.specs.Limits.{tuple_words}
 use Rattle.ssa_ir.specs.Lookups.{sig_of, value_of, values_of}
 use Rattle.ssa_check.specs.declared.classes.Class.{Class}

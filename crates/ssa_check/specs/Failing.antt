@@ -1,8 +1,6 @@
 -- Which places of a function fail a check, and the first fault of a unit.
 use Rattle.std.specs.Prelude.{◌≡◌, ℕ, ◌<◌, false, Option, None, Some, slice_get}
 use Rattle.std.specs.List.{All, Any}
-use Rattle.gossa_base.specs.declared.ids.BlockId.{BlockId}
-use Rattle.gossa_base.specs.declared.ids.ValueId.{ValueId}
 use Rattle.ssa_ir.specs.declared.func.Block.{Block}
 use Rattle.ssa_ir.specs.declared.func.Func.{Func}
 use Rattle.ssa_ir.specs.declared.func.SsaUnit.{SsaUnit}

@@ -1,5 +1,6 @@
 pub mod BlockChecks
 pub mod CalleeCheck
+pub mod CheckNames
 pub mod Classes
 pub mod Cycles
 pub mod EdgeTables

@@ -1,9 +1,7 @@
 -- What the checks of values by themselves and of their arguments ask: which values are as they must be.
-use Rattle.std.specs.Prelude.{ℕ, ℤ, pos, negsuc, ◌==◌, nat_lt, nat_eq, Bool, true, false, not, ◌&&◌, ◌||◌, if◌then◌else◌, List, [], ◌∷◌, length, map, Option, None, Some, slice_get, is_none}
-use Rattle.std.specs.List.{list_all, list_any}
-use Rattle.gossa_base.specs.declared.ids.BlockId.{BlockId}
+use Rattle.std.specs.Prelude.{ℕ, ℤ, pos, negsuc, ◌==◌, nat_lt, Bool, true, false, not, ◌&&◌, ◌||◌, List, [], ◌∷◌, length, Option, None, Some, slice_get}
+use Rattle.std.specs.List.{list_any}
 use Rattle.std.specs.Ordering.{int_eq}
-use Rattle.gossa_base.specs.declared.ids.ValueId.{ValueId}
 use Rattle.ssa_ir.specs.declared.op.Arity.{Arity}
 use Rattle.ssa_ir.specs.declared.op.Arity.TheVariants.{Exact, Any}
 use Rattle.ssa_ir.specs.declared.op.Op.{Op}

@@ -2,15 +2,15 @@
 
 ghost use Rattle.std.specs.Prelude.{◌≡◌, MatchOption, not};
 ghost use Rattle.ssa_ir.specs.declared.func.SsaUnit.{SsaUnit as IrUnit};
-ghost use Rattle.ssa_ir.specs.FirstOrder as spec;
 ghost use Rattle.ssa_ir.specs.WellFormed.{WellFormedFunc};
 ghost use Rattle.ssa_check.specs.declared.refusal.Check.TheVariants as check;
 ghost use Rattle.ssa_check.specs.Failing.{Meets, LeastPlace};
 ghost use Rattle.ssa_check.specs.ValueChecks.{phi_holds, arity_holds, is_first_of};
 
 use crate::lowest::{ValueTest, lowest_value, value_place};
+use crate::ops::is_phi;
 use crate::refusal::At;
-use ssa_ir::{Arity, Block, Func, Op, Value, op_row};
+use ssa_ir::{Arity, Block, Func, Value, op_row};
 
 // Whether a block is the first of these.
 pub(crate) fn is_first(blocks: &[Block], block: &Block) -> bool
@@ -20,13 +20,6 @@ pub(crate) fn is_first(blocks: &[Block], block: &Block) -> bool
         Some(entry) => entry.id == block.id,
         None => false,
     }
-}
-
-// Whether this op is a Phi.
-pub(crate) fn is_phi(op: Op) -> bool
-    ensures { result ≡ spec.is_phi op }
-{
-    matches!(op, Op::Phi)
 }
 
 // Whether the number of arguments of a Phi is wrong, or its place.

@@ -7,7 +7,7 @@ ghost use Rattle.ssa_ir.specs.declared.func.Value.{Value as IrValue};
 ghost use Rattle.ssa_ir.specs.FirstOrder as order;
 ghost use Rattle.ssa_ir.specs.Limits as limits;
 ghost use Rattle.ssa_ir.specs.Lookups.{values_of};
-ghost use Rattle.ssa_ir.specs.WellFormed.{WellFormed, WellFormedFunc};
+ghost use Rattle.ssa_ir.specs.WellFormed.{WellFormedFunc};
 ghost use Rattle.ssa_check.specs.declared.refusal.Check.TheVariants as check;
 ghost use Rattle.ssa_check.specs.CalleeCheck as spec;
 ghost use Rattle.ssa_check.specs.Failing.{Meets, LeastPlace};
@@ -18,28 +18,15 @@ ghost use Rattle.ssa_check.specs.Tables.{lower_where, places_of};
 
 use crate::classes::{Class, class_of, class_of_scalar, same_class};
 use crate::lowest::{ValueTest, lowest_value, value_place};
+use crate::ops::{is_call, is_select};
 use crate::refusal::At;
 use crate::signatures::SignatureTable;
 use crate::types::{before_last, class_at};
 use crate::values::ValueTable;
 use gossa_base::{NoMemory, ValueId};
 use indexmap::{IndexMap, IndexSet};
-use ssa_ir::{Block, Func, Op, Scalar, Sig, SsaUnit, Ty, Value};
+use ssa_ir::{Block, Func, Scalar, Sig, SsaUnit, Ty, Value};
 use std::alloc::Global;
-
-// Whether an op calls.
-fn is_call(op: Op) -> bool
-    ensures { result ≡ order.is_call op }
-{
-    matches!(op, Op::StaticLECall | Op::Arm64CALLstatic)
-}
-
-// Whether an op selects a result of a call.
-fn is_select(op: Op) -> bool
-    ensures { result ≡ order.is_follower op }
-{
-    matches!(op, Op::SelectN)
-}
 
 // An index of a value: what a select selects.
 #[derive(Clone, Copy, PartialEq, Eq, Hash)]
@@ -342,7 +329,6 @@ pub(crate) fn callee_fault(
     func: &Func,
     table: &ValueTable,
 ) -> Result<Option<At>, NoMemory>
-    requires whole { WellFormed unit.now }
     requires well_formed { WellFormedFunc func.now }
     requires of_func { table.now ≡ places_of func.now }
     requires of_unit { signatures.now ≡ names_of unit.now }

@@ -22,11 +22,11 @@ use gossa_base::NoMemory;
 use ssa_ir::{Func, SsaUnit};
 use std::alloc::Global;
 
-/// A check that fails, and where.
-#[derive(Clone, Copy, Debug, PartialEq, Eq)]
-pub struct Found {
-    pub check: Check,
-    pub at: At,
+// A check that fails, and where.
+#[derive(Clone, Copy)]
+struct Found {
+    check: Check,
+    at: At,
 }
 
 // The first fault of a function among the checks that need no table of its values.

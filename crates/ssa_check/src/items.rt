@@ -7,30 +7,13 @@ ghost use Rattle.ssa_ir.specs.FirstOrder as order;
 ghost use Rattle.ssa_check.specs.Items as spec;
 
 use crate::cycles::loops::lowest_on_loop;
+use crate::ops::{is_call, is_phi, is_select};
 use crate::reach::{Edge, Named};
 use crate::values::ValueTable;
 use gossa_base::{NoMemory, ValueId};
 use indexmap::IndexMap;
 use ssa_ir::{Op, Value, op_row};
 use std::alloc::Global;
-
-fn is_call(op: Op) -> bool
-    ensures { result ≡ order.is_call op }
-{
-    matches!(op, Op::StaticLECall | Op::Arm64CALLstatic)
-}
-
-fn is_phi(op: Op) -> bool
-    ensures { result ≡ order.is_phi op }
-{
-    matches!(op, Op::Phi)
-}
-
-fn is_follower(op: Op) -> bool
-    ensures { result ≡ order.is_follower op }
-{
-    matches!(op, Op::SelectN)
-}
 
 fn reads_memory(op: Op) -> bool
     ensures { result ≡ order.reads_memory op }
@@ -120,7 +103,7 @@ impl Items<'_> {
         if is_phi(value.op) {
             return None;
         }
-        if is_follower(value.op) {
+        if is_select(value.op) {
             return match self.call_named(value.args.as_slice()) {
                 Some(call) => Some(call),
                 None => Some(index),

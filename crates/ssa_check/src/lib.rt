@@ -28,6 +28,7 @@ mod edges;
 mod entry;
 mod items;
 mod lowest;
+mod ops;
 mod parameters;
 mod reach;
 pub mod refusal;

@@ -34,8 +34,8 @@ pub(crate) trait BlockTest {
         ensures { result ≡ fails self.now block.now };
 }
 
-// The lower of a number and what is there.
-fn lower(before: Option<u32>, number: u32) -> Option<u32>
+/// The lower of a number and what is there.
+pub(crate) fn lower(before: Option<u32>, number: u32) -> Option<u32>
     ensures { result ≡ spec.lower before number }
 {
     match before {

@@ -10,12 +10,12 @@ ghost use Rattle.ssa_ir.specs.WellFormed.{WellFormedFunc};
 ghost use Rattle.ssa_check.specs.declared.refusal.Check.TheVariants as check;
 ghost use Rattle.ssa_check.specs.Failing.{Meets, LeastPlace};
 ghost use Rattle.ssa_check.specs.ParameterTables as tables;
-ghost use Rattle.ssa_check.specs.Tables.{lower, lower_where};
+ghost use Rattle.ssa_check.specs.Tables.{lower_where};
 ghost use Rattle.ssa_check.specs.ValueChecks as spec;
 
 use crate::arity::is_first;
 use crate::classes::{class_of, class_of_scalar, same_class};
-use crate::lowest::{ValueTest, lowest_value, value_place};
+use crate::lowest::{ValueTest, lower, lowest_value, value_place};
 use crate::refusal::At;
 use gossa_base::NoMemory;
 use indexmap::IndexMap;
@@ -43,22 +43,12 @@ fn is_arg(op: Op) -> bool
     matches!(op, Op::Arg)
 }
 
-// The lower of a number and what is there.
-fn lower_of(before: Option<u32>, number: u32) -> u32
-    ensures { Some result ≡ lower before number }
-{
-    match before {
-        Some(lowest) if lowest <= number => lowest,
-        _ => number,
-    }
-}
-
 // The lowest number of an InitMem, with this value.
 fn with_init(before: Option<u32>, value: &Value) -> Option<u32>
     ensures { result ≡ lower_where (spec.is_init value.now.op) before value.now.id.0 }
 {
     if is_init(value.op) {
-        Some(lower_of(before, value.id.0))
+        lower(before, value.id.0)
     } else {
         before
     }
@@ -71,8 +61,12 @@ fn note_arg(args: &mut IndexMap<i64, u32>, value: &Value) -> Result<(), NoMemory
     if !is_arg(value.op) {
         return Ok(());
     }
-    let lowest = lower_of(args.get(&value.aux).copied(), value.id.0);
-    args.insert(value.aux, lowest)?;
+    if let Some(lowest) = args.get(&value.aux) {
+        if *lowest <= value.id.0 {
+            return Ok(());
+        }
+    }
+    args.insert(value.aux, value.id.0)?;
     Ok(())
 }
 

@@ -1,5 +1,9 @@
 // The checks, the places of a function, and why a unit is refused.
 
+ghost use Rattle.std.specs.Prelude.{◌≡◌};
+ghost use Rattle.ssa_check.specs.CheckNames.{name_of};
+ghost use Rattle.ssa_check.specs.Failing.{number_of};
+
 use gossa_base::{BlockId, ValueId};
 
 /// What every function of a unit must meet, in the order in which it is asked.
@@ -24,6 +28,42 @@ pub enum Check {
     Cycle,
     /// Each block ends by what its kind takes.
     Control,
+}
+
+impl Check {
+    /// The number of this check: those of lower numbers are asked before it. 8 and 10 aren't given yet.
+    pub fn number(self) -> u32
+        ensures { result ≡ number_of self }
+    {
+        match self {
+            Check::Entry => 1,
+            Check::Edges => 2,
+            Check::PhiArity => 3,
+            Check::Arity => 4,
+            Check::Types => 5,
+            Check::ArgOrInit => 6,
+            Check::Callee => 7,
+            Check::Cycle => 9,
+            Check::Control => 11,
+        }
+    }
+
+    /// The name of this check, in ASCII letters.
+    pub fn name(self) -> &'static [u8]
+        ensures { result.now ≡ name_of self }
+    {
+        match self {
+            Check::Entry => b"Entry",
+            Check::Edges => b"Edges",
+            Check::PhiArity => b"PhiArity",
+            Check::Arity => b"Arity",
+            Check::Types => b"Types",
+            Check::ArgOrInit => b"ArgOrInit",
+            Check::Callee => b"Callee",
+            Check::Cycle => b"Cycle",
+            Check::Control => b"Control",
+        }
+    }
 }
 
 /// A place in a function: the function itself, a value, or a block. Places are ordered so: the function, then its values by

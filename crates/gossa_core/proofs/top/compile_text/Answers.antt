@@ -4,15 +4,16 @@ use Rattle.gossa_core.specs.Narrow.{Narrow}
 use Rattle.gossa_core.proofs.CompileLemmas.{same_show}
 use Rattle.gossa_core.proofs.top.compile_text.Goals as goal
 
-pub returns-in-Ok-list_unit-clause-listed : goal.returns-in-Ok-list_unit-clause-listed
-returns-in-Ok-list_unit-clause-listed c =
-    let unit = c.in-Ok.unit in
+pub returns-in-Ok-clause-listed : goal.returns-in-Ok-clause-listed
+returns-in-Ok-clause-listed c =
+    let unit = c.in_ok-unit.unit in
     let narrow : All Narrow unit.funcs =
     subst (All Narrow) c.as_slice.ensures (c.all_narrow.ensures.0 c.if-not-all_narrow.false) in
     record {
       unit = unit;
-      read = c.in-Ok.ensures.exact;
+      read = c.in_ok-unit.ensures.spelled;
+      accepted = c.in_ok-unit.ensures.accepted;
       narrow = narrow;
-      listed = c.in-Ok-list_unit.ensures;
+      listed = c.in-Ok.ensures;
       shows = same_show unit c.args.regs narrow c.requires.many;
     }

@@ -1,4 +1,4 @@
-use Rattle.std.proofs.Common.{◌≡◌, MatchOption, not, subst, sym}
+use Rattle.std.proofs.Common.{MatchOption, not, subst, sym}
 use Rattle.std.proofs.lemmas.Bool.{not-true, not_from_false}
 use Rattle.ssa_check.specs.declared.refusal.Check.TheVariants.{PhiArity}
 use Rattle.ssa_check.specs.Failing.{Meets, LeastPlace}

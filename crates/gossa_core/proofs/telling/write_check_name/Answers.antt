@@ -1,0 +1,39 @@
+use Rattle.std.proofs.Common.{codes, subst, ap}
+use Rattle.std.proofs.KnownBytes.{Appends-trans}
+use Rattle.std.proofs.lemmas.Result.{on_ok_weaker, on_err_weaker}
+use Rattle.std.specs.Io.KnownBytes.{Appends}
+use Rattle.gossa_base.specs.Whole.{AppendsPrefix}
+use Rattle.gossa_core.specs.CheckText.{numbered}
+use Rattle.gossa_core.proofs.TellingLemmas.{in_front, behind, failed}
+use Rattle.gossa_core.proofs.telling.write_check_name.Goals as goal
+
+pub returns-in_err-write_numbered-clause-prefix : goal.returns-in_err-write_numbered-clause-prefix
+returns-in_err-write_numbered-clause-prefix g c =
+    let number = ap (numbered (codes ": C")) c.number.ensures in
+    failed c.from_residual.result _
+    (in_front _ _ _ _ (subst (AppendsPrefix _ _) number c.in_err-write_numbered.ensures.prefix))
+
+pub returns-in_err-write_all-clause-prefix : goal.returns-in_err-write_all-clause-prefix
+returns-in_err-write_all-clause-prefix g c =
+    let number = ap (numbered (codes ": C")) c.number.ensures in
+    failed c.from_residual-in_err-write_all.result _
+    (behind _ _ _ _ _ (subst (Appends _ _) number c.in_ok-write_numbered.ensures.ok)
+    (in_front _ _ (codes " ") _ c.in_err-write_all.ensures.prefix))
+
+pub returns-clause-ok : goal.returns-clause-ok
+returns-clause-ok g c =
+    let number = ap (numbered (codes ": C")) c.number.ensures in
+    on_ok_weaker c.write_all-2.result
+    (λ last.
+    Appends-trans _ _ _ _ _ (subst (Appends _ _) number c.in_ok-write_numbered.ensures.ok)
+    (Appends-trans _ _ _ (codes " ") _ c.in_ok-write_all.ensures.ok (subst (Appends _ _) c.name.ensures last)))
+    c.write_all-2.ensures.ok
+
+pub returns-clause-prefix : goal.returns-clause-prefix
+returns-clause-prefix g c =
+    let number = ap (numbered (codes ": C")) c.number.ensures in
+    on_err_weaker c.write_all-2.result
+    (λ last.
+    behind _ _ _ _ _ (subst (Appends _ _) number c.in_ok-write_numbered.ensures.ok)
+    (behind _ _ _ (codes " ") _ c.in_ok-write_all.ensures.ok (subst (AppendsPrefix _ _) c.name.ensures last)))
+    c.write_all-2.ensures.prefix
