@@ -7,8 +7,10 @@ mod NarrowChecks
 mod NarrowClasses
 mod NarrowControls
 mod NarrowCycles
+mod NarrowDefined
 mod NarrowInputs
 mod NarrowLemmas
+mod NarrowMemory
 mod NarrowRun
 mod NarrowTestLemmas
 mod NumberedLemmas

@@ -2,7 +2,7 @@
 use Rattle.std.proofs.Common.{◌≡◌, ℕ, ◌+◌, true, false, true≢false, List, length, sym, subst}
 use Rattle.ssa_ir.specs.declared.func.Func.{Func}
 use Rattle.ssa_ir.specs.declared.func.SsaUnit.{SsaUnit}
-use Rattle.ssa_check.specs.declared.refusal.Check.TheVariants.{Entry, Edges, PhiArity, Arity, Types, ArgOrInit, Callee, Cycle, Control}
+use Rattle.ssa_check.specs.declared.refusal.Check.TheVariants.{Entry, Edges, PhiArity, Arity, Types, ArgOrInit, Callee, Memory, Cycle, Undefined, Control}
 use Rattle.ssa_check.specs.Failing.{Meets, MeetsAll}
 use Rattle.ssa_check.specs.ValueChecks.{phi_holds, arity_holds}
 use Rattle.ssa_check.specs.CalleeCheck.{callee_holds}
@@ -11,7 +11,9 @@ use Rattle.gossa_core.proofs.NarrowChecks.{each_value, narrow_meets}
 use Rattle.gossa_core.proofs.NarrowClasses.{types_met}
 use Rattle.gossa_core.proofs.NarrowControls.{control_met}
 use Rattle.gossa_core.proofs.NarrowCycles.{cycle_met}
+use Rattle.gossa_core.proofs.NarrowDefined.{undefined_met}
 use Rattle.gossa_core.proofs.NarrowInputs.{arg_or_init_met}
+use Rattle.gossa_core.proofs.NarrowMemory.{memory_met}
 
 -- ---- the entry, edges, and numbers of arguments: nothing of these goes by the steps
 
@@ -79,7 +81,9 @@ made_accepted u name params steps r fit once above Arity = arity_met u name para
 made_accepted u name params steps r fit once above Types = types_met u name params steps r fit above
 made_accepted u name params steps r fit once above ArgOrInit = arg_or_init_met u name params steps r fit once
 made_accepted u name params steps r fit once above Callee = callee_met u name params steps r fit
+made_accepted u name params steps r fit once above Memory = memory_met u name params steps r fit
 made_accepted u name params steps r fit once above Cycle = cycle_met u name params steps r fit above
+made_accepted u name params steps r fit once above Undefined = undefined_met u name params steps r fit above
 made_accepted u name params steps r fit once above Control = control_met u name params steps r fit above
 
 -- a narrow function meets all checks

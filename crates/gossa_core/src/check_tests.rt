@@ -58,7 +58,11 @@ fn compile_words(alloc: Global) -> Result<Vec<String>, AllocError> {
 }
 
 // Runs `compile` over this text, which has to be refused with this line behind the program's name.
-fn refused(rt: &(impl Abort + AllocGlobal), text: &str, line: &str) -> Result<(), NoMemory> {
+pub(crate) fn refused(
+    rt: &(impl Abort + AllocGlobal),
+    text: &str,
+    line: &str,
+) -> Result<(), NoMemory> {
     let alloc = rt.alloc();
     let words = compile_words(alloc)?;
     let told = format!(in alloc; "gossa: {line}\n")?;
@@ -73,7 +77,7 @@ fn refused(rt: &(impl Abort + AllocGlobal), text: &str, line: &str) -> Result<()
 }
 
 // Runs `compile` over this text, which meets all checks: it is done, or not built yet.
-fn accepted(rt: &(impl Abort + AllocGlobal), text: &str) -> Result<(), NoMemory> {
+pub(crate) fn accepted(rt: &(impl Abort + AllocGlobal), text: &str) -> Result<(), NoMemory> {
     let alloc = rt.alloc();
     let words = compile_words(alloc)?;
     let mut source = MemSource::new(alloc, text.as_bytes(), 4096, &[])?;

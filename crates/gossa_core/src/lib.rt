@@ -14,8 +14,7 @@
 //! Known limits: the only command is `compile`. It compiles functions of one block that add parameters and constants of
 //! type int64, with their values numbered in order. A text of another function that meets the checks is refused as not
 //! built, and one of too many bytes as too long; a text that spells no unit, and a unit that fails a check, by its first
-//! fault. The checks asked are those numbered 1 to 7, 9 and 11: not yet that memory is one chain, and that each use is
-//! behind its definition on every path.
+//! fault.
 #![tactic(auto)]
 
 pub mod laws;
@@ -36,5 +35,7 @@ pub use words::{Command, read_words};
 
 #[cfg(test)]
 mod check_tests;
+#[cfg(test)]
+mod path_tests;
 #[cfg(test)]
 mod tests;

@@ -20,8 +20,7 @@ use gossa_base::{
     Bytes, Failed, Name, NoMemory, ReadRefusal, Sequence, Sink, Source, put, read_all, write_all,
 };
 use listing::{Listings, print_listing};
-use ssa_check::Fault;
-use ssa_check::check::first_fault;
+use ssa_check::{CheckRefusal, Checked, Fault, check};
 use ssa_ir::SsaUnit;
 use ssa_text::{TextRefusal, print_unit_cases, read_unit};
 use std::alloc::Global;
@@ -101,7 +100,8 @@ fn compile_text(alloc: Global, text: &[u8], regs: u32) -> Result<Bytes, Outcome>
     ensures listed { IfOk result (λ output. Compiles regs text.now output) }
     ensures unlisted { IfErr result (λ outcome. Unlisted text.now outcome) }
 {
-    let unit = read_checked(alloc, text)?;
+    let checked = read_checked(alloc, text)?;
+    let unit = checked.into_unit();
     if !all_narrow(unit.funcs.as_slice()) {
         return Err(Outcome::NotBuilt);
     }
@@ -112,15 +112,14 @@ fn compile_text(alloc: Global, text: &[u8], regs: u32) -> Result<Bytes, Outcome>
 }
 
 // The unit that this text spells and that all checks accept, or how the program ends without one.
-fn read_checked(alloc: Global, text: &[u8]) -> Result<SsaUnit, Outcome>
+fn read_checked(alloc: Global, text: &[u8]) -> Result<Checked, Outcome>
     requires few { length text.now ≤ input_limit }
-    ensures spelled { IfOk result (λ unit. spelling.read_unit text.now ≡ Ok unit) }
+    ensures spelled { IfOk result (λ checked. spelling.read_unit text.now ≡ Ok checked) }
     ensures accepted { IfOk result Accepted }
     ensures unlisted { IfErr result (λ outcome. Unlisted text.now outcome) }
 {
     let unit = read_text(alloc, text)?;
-    check_unit(alloc, &unit)?;
-    Ok(unit)
+    check_unit(alloc, unit)
 }
 
 // The unit that this text spells, or how the program ends without one.
@@ -138,15 +137,16 @@ fn read_text(alloc: Global, text: &[u8]) -> Result<SsaUnit, Outcome>
 }
 
 // Asks the checks of a unit: it is accepted, or this is how the program ends.
-fn check_unit(alloc: Global, unit: &SsaUnit) -> Result<(), Outcome>
-    requires { WellFormed unit.now }
-    ensures accepted { IfOk result (λ done. Accepted unit.now) }
-    ensures unchecked { IfErr result (λ outcome. Unchecked unit.now outcome) }
+fn check_unit(alloc: Global, unit: SsaUnit) -> Result<Checked, Outcome>
+    requires { WellFormed unit }
+    ensures checked { IfOk result (λ checked. checked ≡ unit) }
+    ensures accepted { IfOk result Accepted }
+    ensures unchecked { IfErr result (λ outcome. Unchecked unit outcome) }
 {
-    match first_fault(alloc, unit) {
-        Ok(None) => Ok(()),
-        Ok(Some(fault)) => Err(name_fault(unit, fault)),
-        Err(NoMemory) => Err(Outcome::NoMemory),
+    match check(alloc, unit) {
+        Ok(checked) => Ok(checked),
+        Err((CheckRefusal::Failed(fault), unit)) => Err(name_fault(&unit, fault)),
+        Err((CheckRefusal::NoMemory, _)) => Err(Outcome::NoMemory),
     }
 }
 

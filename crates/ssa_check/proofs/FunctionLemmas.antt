@@ -4,7 +4,7 @@ use Rattle.std.proofs.lemmas.Bool.{eqb-true, eqb-false}
 use Rattle.ssa_ir.specs.declared.func.Func.{Func}
 use Rattle.ssa_ir.specs.declared.func.SsaUnit.{SsaUnit}
 use Rattle.ssa_ir.specs.WellFormed.{WellFormed, WellFormedFunc}
-use Rattle.ssa_check.specs.declared.check.Found.{Found}
+use Rattle.ssa_check.specs.declared.faults.Found.{Found}
 use Rattle.ssa_check.specs.Failing.{Accepted, FirstFault, FirstFaultOf, MeetsAll}
 
 item_there : {X : Type 0} (xs : List X) (k : ℕ) (d : X) → k < length xs → slice_get xs k ≡ Some (get_or xs k d)

@@ -3,11 +3,11 @@ use Rattle.std.proofs.Common.{◌≡◌, ℕ, suc, ◌==◌, Bool, true, false, 
 use Rattle.std.proofs.lemmas.Bool.{eqb-true, eqb-false}
 use Rattle.ssa_ir.specs.declared.func.Func.{Func}
 use Rattle.ssa_ir.specs.declared.func.SsaUnit.{SsaUnit}
-use Rattle.ssa_check.specs.declared.check.Found.{Found}
+use Rattle.ssa_check.specs.declared.faults.Found.{Found}
 use Rattle.ssa_check.specs.declared.refusal.At.{At}
 use Rattle.ssa_check.specs.declared.refusal.At.TheVariants.{Func as AtFunc, Value as AtValue, Block as AtBlock}
 use Rattle.ssa_check.specs.declared.refusal.Check.{Check}
-use Rattle.ssa_check.specs.declared.refusal.Check.TheVariants.{Entry, Edges, PhiArity, Arity, Types, ArgOrInit, Callee, Cycle, Control}
+use Rattle.ssa_check.specs.declared.refusal.Check.TheVariants.{Entry, Edges, PhiArity, Arity, Types, ArgOrInit, Callee, Memory, Cycle, Undefined, Control}
 use Rattle.ssa_check.specs.Failing.{FirstFaultOf, LeastPlace, Meets, MeetsAll, MetBelow, number_of}
 
 -- the check of a number
@@ -20,7 +20,9 @@ check_of n =
     else if n == 5 then Some Types
     else if n == 6 then Some ArgOrInit
     else if n == 7 then Some Callee
+    else if n == 8 then Some Memory
     else if n == 9 then Some Cycle
+    else if n == 10 then Some Undefined
     else if n == 11 then Some Control
     else None
 
@@ -32,7 +34,9 @@ back Arity = refl
 back Types = refl
 back ArgOrInit = refl
 back Callee = refl
+back Memory = refl
 back Cycle = refl
+back Undefined = refl
 back Control = refl
 
 same_check : (c d : Check) → Some c ≡ Some d → c ≡ d
@@ -50,7 +54,9 @@ none_below u f Arity lt = absurd (omega (arith, lt))
 none_below u f Types lt = absurd (omega (arith, lt))
 none_below u f ArgOrInit lt = absurd (omega (arith, lt))
 none_below u f Callee lt = absurd (omega (arith, lt))
+none_below u f Memory lt = absurd (omega (arith, lt))
 none_below u f Cycle lt = absurd (omega (arith, lt))
+none_below u f Undefined lt = absurd (omega (arith, lt))
 none_below u f Control lt = absurd (omega (arith, lt))
 
 -- one more check is met
@@ -59,17 +65,6 @@ one_more n c u f is below met d lt = go (eqb (number_of d) n) refl
   where
     go : (b : Bool) → eqb (number_of d) n ≡ b → Meets d u f
     go true e = subst (λ x. Meets x u f) (one_number c d (is ∙ sym (eqb-true (number_of d) n e))) met
-    go false e = below d (omega (arith, lt, eqb-false (number_of d) n e))
-
--- a number that no check has
-pub no_check : (n : ℕ) (u : SsaUnit) (f : Func) → check_of n ≡ None → MetBelow n u f → MetBelow (suc n) u f
-no_check n u f none below d lt = go (eqb (number_of d) n) refl
-  where
-    clash : Some d ≡ None → ⊥
-    clash e = cc
-
-    go : (b : Bool) → eqb (number_of d) n ≡ b → Meets d u f
-    go true e = absurd (clash (sym (back d) ∙ ap check_of (eqb-true (number_of d) n e) ∙ none))
     go false e = below d (omega (arith, lt, eqb-false (number_of d) n e))
 
 -- all are met
@@ -81,7 +76,9 @@ all_met u f below Arity = below Arity (omega arith)
 all_met u f below Types = below Types (omega arith)
 all_met u f below ArgOrInit = below ArgOrInit (omega arith)
 all_met u f below Callee = below Callee (omega arith)
+all_met u f below Memory = below Memory (omega arith)
 all_met u f below Cycle = below Cycle (omega arith)
+all_met u f below Undefined = below Undefined (omega arith)
 all_met u f below Control = below Control (omega arith)
 
 -- ---- what the checks so far are met below
@@ -99,25 +96,6 @@ module _ (u : SsaUnit) (f : Func) where
   pub below_types : Meets Entry u f → Meets Edges u f → Meets PhiArity u f → Meets Arity u f → MetBelow 5 u f
   below_types entry edges phis arity = one_more 4 Arity u f refl (below_arity entry edges phis) arity
 
-  pub below_parameters : MetBelow 5 u f → Meets Types u f → MetBelow 6 u f
-  below_parameters below types = one_more 5 Types u f refl below types
-
-  pub below_callees : MetBelow 5 u f → Meets Types u f → Meets ArgOrInit u f → MetBelow 7 u f
-  below_callees below types parameters = one_more 6 ArgOrInit u f refl (below_parameters below types) parameters
-
-  pub below_cycles : MetBelow 5 u f → Meets Types u f → Meets ArgOrInit u f → Meets Callee u f → MetBelow 9 u f
-  below_cycles below types parameters callees =
-      no_check 8 u f refl (one_more 7 Callee u f refl (below_callees below types parameters) callees)
-
-  pub below_controls : MetBelow 5 u f → Meets Types u f → Meets ArgOrInit u f → Meets Callee u f → Meets Cycle u f → MetBelow 11 u f
-  below_controls below types parameters callees cycles =
-      no_check 10 u f refl (one_more 9 Cycle u f refl (below_cycles below types parameters callees) cycles)
-
-  pub meets_all : MetBelow 5 u f → Meets Types u f → Meets ArgOrInit u f → Meets Callee u f → Meets Cycle u f → Meets Control u f
-      → MeetsAll u f
-  meets_all below types parameters callees cycles controls =
-      all_met u f (one_more 11 Control u f refl (below_controls below types parameters callees cycles) controls)
-
 -- ---- what was found, by what it is
 
 pub when_none : (c : Check) (u : SsaUnit) (f : Func) (o : Option At) → MatchOption o (Meets c u f) (LeastPlace c u f) → o ≡ None
@@ -130,21 +108,37 @@ pub when_some : (c : Check) (u : SsaUnit) (f : Func) (o : Option At) (at : At) �
 when_some c u f None at h e = cc
 when_some c u f (Some found) at h e = let same : found ≡ at = cc in subst (LeastPlace c u f) same h
 
+-- a check of number n that found nothing is met, and so are those before it
+pub goes_on : (n : ℕ) (c : Check) (u : SsaUnit) (f : Func) (o : Option At) → number_of c ≡ n → MetBelow n u f
+    → MatchOption o (Meets c u f) (LeastPlace c u f) → o ≡ None → MetBelow (suc n) u f
+goes_on n c u f o is below h e = one_more n c u f is below (when_none c u f o h e)
+
+-- one that found a place is the first that fails
+pub fails_first : (c : Check) (u : SsaUnit) (f : Func) (o : Option At) (at : At) → MetBelow (number_of c) u f
+    → MatchOption o (Meets c u f) (LeastPlace c u f) → o ≡ Some at → FirstFaultOf u f c at
+fails_first c u f o at below h e = record { earlier = below; place = when_some c u f o at h e }
+
 abbrev pub IsFirst : SsaUnit → Func → Found → Type 0
 IsFirst u f x = FirstFaultOf u f x.check x.at
 
-pub unless_found : (u : SsaUnit) (f : Func) (o : Option Found) → MatchOption o (MetBelow 5 u f) (IsFirst u f) → o ≡ None
-    → MetBelow 5 u f
-unless_found u f None h e = h
-unless_found u f (Some x) h e = cc
+pub unless_found : (n : ℕ) (u : SsaUnit) (f : Func) (o : Option Found) → MatchOption o (MetBelow n u f) (IsFirst u f)
+    → o ≡ None → MetBelow n u f
+unless_found n u f None h e = h
+unless_found n u f (Some x) h e = cc
 
-pub when_found : (u : SsaUnit) (f : Func) (o : Option Found) (x : Found) → MatchOption o (MetBelow 5 u f) (IsFirst u f) → o ≡ Some x
-    → IsFirst u f x
-when_found u f None x h e = cc
-when_found u f (Some y) x h e = let same : y ≡ x = cc in subst (IsFirst u f) same h
+pub when_found : (n : ℕ) (u : SsaUnit) (f : Func) (o : Option Found) (x : Found)
+    → MatchOption o (MetBelow n u f) (IsFirst u f) → o ≡ Some x → IsFirst u f x
+when_found n u f None x h e = cc
+when_found n u f (Some y) x h e = let same : y ≡ x = cc in subst (IsFirst u f) same h
 
 -- the number of arguments is asked in every unit alike
 pub arity_alike : (u w : SsaUnit) (f : Func) → Meets Arity u f → Meets Arity w f
 arity_alike u w f h AtFunc fails = h AtFunc fails
 arity_alike u w f h (AtValue id) fails = h (AtValue id) fails
 arity_alike u w f h (AtBlock id) fails = h (AtBlock id) fails
+
+-- and so are edges
+pub edges_alike : (u w : SsaUnit) (f : Func) → Meets Edges u f → Meets Edges w f
+edges_alike u w f h AtFunc fails = h AtFunc fails
+edges_alike u w f h (AtValue id) fails = h (AtValue id) fails
+edges_alike u w f h (AtBlock id) fails = h (AtBlock id) fails

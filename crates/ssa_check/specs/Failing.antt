@@ -8,11 +8,15 @@ use Rattle.ssa_ir.specs.declared.func.Value.{Value}
 use Rattle.ssa_check.specs.declared.refusal.At.{At}
 use Rattle.ssa_check.specs.declared.refusal.At.TheVariants.{Func as AtFunc, Value as AtValue, Block as AtBlock}
 use Rattle.ssa_check.specs.declared.refusal.Check.{Check}
-use Rattle.ssa_check.specs.declared.refusal.Check.TheVariants.{Entry, Edges, PhiArity, Arity, Types, ArgOrInit, Callee, Cycle, Control}
+use Rattle.ssa_check.specs.declared.refusal.Check.TheVariants.{Entry, Edges, PhiArity, Arity, Types, ArgOrInit, Callee, Memory, Cycle, Undefined, Control}
+use Rattle.ssa_check.specs.declared.refusal.CheckRefusal.{CheckRefusal}
+use Rattle.ssa_check.specs.declared.refusal.CheckRefusal.TheVariants.{Failed, NoMemory}
 use Rattle.ssa_check.specs.declared.refusal.Fault.{Fault}
 use Rattle.ssa_check.specs.BlockChecks.{control_holds, edges_hold, entry_holds, has_blocks}
 use Rattle.ssa_check.specs.CalleeCheck.{callee_holds}
 use Rattle.ssa_check.specs.Cycles.{OnCycle}
+use Rattle.ssa_check.specs.Definedness.{ControlMisses, ValueMisses}
+use Rattle.ssa_check.specs.MemoryPaths.{MemoryBlockFails, MemoryValueFails}
 use Rattle.ssa_check.specs.ValueChecks.{arg_or_init_holds, arity_holds, has_init, phi_holds, types_hold}
 
 -- the function itself fails
@@ -28,13 +32,17 @@ ValueFails Arity u f b v = arity_holds v ≡ false
 ValueFails Types u f b v = types_hold f v ≡ false
 ValueFails ArgOrInit u f b v = arg_or_init_holds f b v ≡ false
 ValueFails Callee u f b v = callee_holds u f b v ≡ false
+ValueFails Memory u f b v = MemoryValueFails f b v
 ValueFails Cycle u f b v = OnCycle b.values v
+ValueFails Undefined u f b v = ValueMisses f b v
 ValueFails _ u f b v = ⊥
 
 -- a block fails
 abbrev pub BlockFails : Check → SsaUnit → Func → Block → Type 0
 BlockFails Entry u f b = entry_holds f b ≡ false
 BlockFails Edges u f b = edges_hold f b ≡ false
+BlockFails Memory u f b = MemoryBlockFails f b
+BlockFails Undefined u f b = ControlMisses f b b.control
 BlockFails Control u f b = control_holds f b ≡ false
 BlockFails _ u f b = ⊥
 
@@ -87,7 +95,9 @@ number_of Arity = 4
 number_of Types = 5
 number_of ArgOrInit = 6
 number_of Callee = 7
+number_of Memory = 8
 number_of Cycle = 9
+number_of Undefined = 10
 number_of Control = 11
 
 -- all checks of lower numbers are met
@@ -110,3 +120,8 @@ pub record FirstFault (u : SsaUnit) (fault : Fault) : Type 0 where
   pub is_its : slice_get u.funcs fault.func ≡ Some func
   pub earlier : (i : ℕ) (f : Func) → i < fault.func → slice_get u.funcs i ≡ Some f → MeetsAll u f
   pub fault_of : FirstFaultOf u func fault.check fault.at
+
+-- why a unit is refused; want of memory alone is free
+abbrev pub IsRefused : SsaUnit → CheckRefusal → Type 0
+IsRefused u (Failed fault) = FirstFault u fault
+IsRefused u NoMemory = Unit {0}

@@ -95,8 +95,8 @@ impl UseTable {
     }
 }
 
-// Whether an op makes the results of its function.
-fn is_result(op: Op) -> bool
+/// Whether an op makes the results of its function.
+pub(crate) fn is_result(op: Op) -> bool
     ensures { result ≡ spec.is_result op }
 {
     matches!(op, Op::MakeResult)

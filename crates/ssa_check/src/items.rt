@@ -15,7 +15,8 @@ use indexmap::IndexMap;
 use ssa_ir::{Op, Value, op_row};
 use std::alloc::Global;
 
-fn reads_memory(op: Op) -> bool
+/// Whether an op reads a memory and makes none.
+pub(crate) fn reads_memory(op: Op) -> bool
     ensures { result ≡ order.reads_memory op }
 {
     op_row(op).reads_mem
@@ -33,8 +34,8 @@ fn takes_memory(op: Op) -> bool
     reads_memory(op) || changes_memory(op)
 }
 
-// The memory that a value reads or changes: its last argument.
-fn memory_taken(value: &Value) -> Option<ValueId>
+/// The memory that a value reads or changes: its last argument.
+pub(crate) fn memory_taken(value: &Value) -> Option<ValueId>
     ensures { result ≡ order.memory_taken value.now.op value.now.args }
 {
     if takes_memory(value.op) {

@@ -29,8 +29,8 @@ struct ParameterTable {
     args: IndexMap<i64, u32>,
 }
 
-// Whether this op is an InitMem.
-fn is_init(op: Op) -> bool
+/// Whether this op is an InitMem.
+pub(crate) fn is_init(op: Op) -> bool
     ensures { result ≡ spec.is_init op }
 {
     matches!(op, Op::InitMem)

@@ -24,14 +24,18 @@ pub enum Check {
     ArgOrInit,
     /// Calls and their selects are those of the callee's signature.
     Callee,
+    /// The memory of each block is one chain, which goes on with the memory that all paths to it pass.
+    Memory,
     /// No values of a block but phis wait for each other.
     Cycle,
+    /// On each path to a use the definition was passed.
+    Undefined,
     /// Each block ends by what its kind takes.
     Control,
 }
 
 impl Check {
-    /// The number of this check: those of lower numbers are asked before it. 8 and 10 aren't given yet.
+    /// The number of this check: those of lower numbers are asked before it.
     pub fn number(self) -> u32
         ensures { result ≡ number_of self }
     {
@@ -43,7 +47,9 @@ impl Check {
             Check::Types => 5,
             Check::ArgOrInit => 6,
             Check::Callee => 7,
+            Check::Memory => 8,
             Check::Cycle => 9,
+            Check::Undefined => 10,
             Check::Control => 11,
         }
     }
@@ -60,7 +66,9 @@ impl Check {
             Check::Types => b"Types",
             Check::ArgOrInit => b"ArgOrInit",
             Check::Callee => b"Callee",
+            Check::Memory => b"Memory",
             Check::Cycle => b"Cycle",
+            Check::Undefined => b"Undefined",
             Check::Control => b"Control",
         }
     }
@@ -82,4 +90,13 @@ pub struct Fault {
     pub func: u32,
     pub check: Check,
     pub at: At,
+}
+
+/// Why a unit isn't accepted.
+#[derive(Clone, Copy, Debug, PartialEq, Eq)]
+pub enum CheckRefusal {
+    /// This is its first fault.
+    Failed(Fault),
+    /// There was no memory for the checks.
+    NoMemory,
 }

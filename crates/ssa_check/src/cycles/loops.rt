@@ -130,3 +130,6 @@ pub(crate) fn lowest_on_loop(
     }
     lowest_by_trial(alloc, &graph, names)
 }
+
+#[cfg(test)]
+mod tests;

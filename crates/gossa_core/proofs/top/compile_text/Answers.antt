@@ -1,18 +1,19 @@
-use Rattle.std.proofs.Common.{subst}
+use Rattle.std.proofs.Common.{◌≡◌, Ok, subst, sym}
 use Rattle.std.specs.List.{All}
+use Rattle.ssa_text.specs.UnitReading.{read_unit}
 use Rattle.gossa_core.specs.Narrow.{Narrow}
 use Rattle.gossa_core.proofs.CompileLemmas.{same_show}
 use Rattle.gossa_core.proofs.top.compile_text.Goals as goal
 
 pub returns-in-Ok-clause-listed : goal.returns-in-Ok-clause-listed
 returns-in-Ok-clause-listed c =
-    let unit = c.in_ok-unit.unit in
+    let unit = c.into_unit-unit.result in
     let narrow : All Narrow unit.funcs =
     subst (All Narrow) c.as_slice.ensures (c.all_narrow.ensures.0 c.if-not-all_narrow.false) in
     record {
       unit = unit;
-      read = c.in_ok-unit.ensures.spelled;
-      accepted = c.in_ok-unit.ensures.accepted;
+      read = subst (λ u. read_unit c.args.text.now ≡ Ok u) (sym c.into_unit-unit.ensures.unit) c.in_ok-checked.ensures.spelled;
+      accepted = c.into_unit-unit.ensures.accepted;
       narrow = narrow;
       listed = c.in-Ok.ensures;
       shows = same_show unit c.args.regs narrow c.requires.many;

@@ -1,9 +1,0 @@
-use Rattle.ssa_check.proofs.OrderLemmas.{unless_found, when_found}
-use Rattle.ssa_check.proofs.check.fault_of.Goals as goal
-
-pub returns-in-Some : goal.returns-in-Some
-returns-in-Some c = when_found c.args.unit.now c.args.func.now c.in_ok-found.field-0 c.in-Some.found (c.in_ok-found.ensures c.args.unit.now) c.in-Some.is
-
-pub later_checks-requires-clause-before : goal.later_checks-requires-clause-before
-later_checks-requires-clause-before c =
-    unless_found c.args.unit.now c.args.func.now c.in_ok-found.field-0 (c.in_ok-found.ensures c.args.unit.now) c.in_default.is

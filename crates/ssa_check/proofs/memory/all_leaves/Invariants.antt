@@ -1,0 +1,9 @@
+use Rattle.std.proofs.Common.{◌≡◌, length}
+use Rattle.ssa_check.specs.ChainTables.{LeavesOf}
+use Rattle.ssa_check.specs.MemoryTables.{EachOf}
+use Rattle.ssa_check.proofs.memory.all_leaves.Given as goal
+
+-- what the blocks so far leave
+abbrev pub invariant-loop-block : goal.invariant-loop-block
+invariant-loop-block l =
+    (length l.leaves.items ≡ l.block-index) × EachOf (LeavesOf l.func) l.func.blocks l.leaves.items

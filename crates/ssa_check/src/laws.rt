@@ -1,0 +1,24 @@
+// What later passes may rely on in accepted units.
+
+ghost use Rattle.ssa_check.specs.MemoryLaws.{MemoryIsOne, OneIsPassed};
+ghost use Rattle.ssa_check.specs.PathLaws.{DefinitionsComeFirst, NothingCircles};
+
+/// In a function of an accepted unit each use stands behind the definition, on every path; a value has one definition.
+pub fn definitions_come_first()
+    ensures { DefinitionsComeFirst }
+{}
+
+/// In a function of an accepted unit no values of reached blocks but phis take each other in a circle.
+pub fn nothing_circles()
+    ensures { NothingCircles }
+{}
+
+/// In a function of an accepted unit the memory that a value, a result or an exit names is the last definer passed, on every path.
+pub fn memory_is_one()
+    ensures { MemoryIsOne }
+{}
+
+/// On a path through a function of an accepted unit one memory is passed at the most.
+pub fn one_is_passed()
+    ensures { OneIsPassed }
+{}
