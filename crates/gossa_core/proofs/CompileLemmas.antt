@@ -7,7 +7,7 @@ use Rattle.ssa_ir.specs.declared.func.Func.{Func}
 use Rattle.ssa_ir.specs.declared.func.SsaUnit.{SsaUnit}
 use Rattle.listing.specs.declared.code.Listing.{Listing}
 use Rattle.listing.specs.SameShow.{SameShow, ShowsAs, callees_of}
-use Rattle.gossa_core.specs.Answer.{listings_of}
+use Rattle.gossa_core.specs.Compiled.{listings_of}
 use Rattle.gossa_core.specs.Narrow.{Narrow}
 use Rattle.gossa_core.specs.Plain.{plain_listing}
 use Rattle.gossa_core.proofs.PlainRun.{plain_shows}

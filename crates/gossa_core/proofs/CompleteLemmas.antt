@@ -1,9 +1,12 @@
--- Where nothing failed and the input is the text of narrow functions, the causes leave two answers.
-use Rattle.std.proofs.Common.{◌≡◌, ℕ, ◌≤◌, List, ◌++◌, length, Option, None, Some, IsSome, Result, Ok, Err, sym, ap, subst, ◌∙◌, ◌⊎◌, inl, inr, append-nil, length-append, arith}
+-- Where nothing failed and the input is the text of a unit that the command takes, the causes leave two answers.
+use Rattle.std.proofs.Common.{◌≡◌, ℕ, ◌≤◌, List, ◌++◌, length, Option, None, Some, slice_get, Result, Ok, Err, sym, ap, subst, ◌∙◌, ◌⊎◌, inl, inr, append-nil, length-append, arith}
 use Rattle.std.specs.Io.KnownBytes.{Consumes, IsAtEnd}
 use Rattle.std.specs.List.{All}
+use Rattle.std.proofs.lemmas.Option.{slice_get_within, get_or_from_slice_get}
 use Rattle.gossa_base.specs.Faults.{Faulted}
+use Rattle.ssa_ir.specs.declared.func.Func.{Func}
 use Rattle.ssa_ir.specs.declared.func.SsaUnit.{SsaUnit}
+use Rattle.ssa_check.specs.Failing.{MeetsAll}
 use Rattle.ssa_text.specs.UnitReading.{read_unit}
 use Rattle.ssa_lines.specs.declared.refusal.TextRefusal.{TextRefusal}
 use Rattle.ssa_lines.specs.declared.refusal.TextRefusal.TheVariants.{NoMemory as Wanting}
@@ -13,11 +16,14 @@ use Rattle.gossa_core.specs.declared.status.Status.TheVariants.{Done as IsDone, 
 use Rattle.gossa_core.specs.declared.status.Outcome.{Outcome}
 use Rattle.gossa_core.specs.declared.status.Outcome.TheVariants.{Done, NotBuilt, TooLong, Text, Check, Usage, ReadFault, WriteFault, NoMemory}
 use Rattle.gossa_core.specs.declared.words.Command.{Command}
-use Rattle.gossa_core.specs.declared.words.Command.TheVariants.{Compile}
-use Rattle.gossa_core.specs.Answer.{World, status_of, input_limit, CompileCause, Cause, IsComplete}
+use Rattle.gossa_core.specs.declared.words.Command.TheVariants.{Compile, Run}
+use Rattle.gossa_core.specs.Answer.{status_of, IsComplete}
+use Rattle.gossa_core.specs.Causes.{CommandCause, Cause}
 use Rattle.gossa_core.specs.Narrow.{Narrow}
-use Rattle.gossa_core.specs.Unlisted.{FailsCheck, IsFirstFault, IsUnbuilt, Misspells}
+use Rattle.gossa_core.specs.Outputs.{input_limit, Takes}
+use Rattle.gossa_core.specs.Unmade.{FailsCheck, IsFirstFault, LeavesUnbuilt, Misspells}
 use Rattle.gossa_core.specs.Words.{command_of}
+use Rattle.gossa_core.specs.Worlds.{World}
 use Rattle.gossa_core.proofs.NarrowAccepted.{narrow_accepted}
 use Rattle.gossa_core.proofs.CompileLemmas.{narrow_at}
 
@@ -37,11 +43,11 @@ read_within (Some xs) None text bytes e p = absurd p
 read_within (Some xs) (Some ys) text bytes e p =
     let same : xs ≡ text = cc in omega (arith, ap length same, ap length p, length-append bytes ys)
 
--- the text of a unit of narrow functions
-pub record SpellsNarrow (text : List ℕ) : Type 0 where
+-- the text of a unit that a command takes
+pub record SpellsTaken (c : Command) (text : List ℕ) : Type 0 where
   pub unit : SsaUnit
   pub read : read_unit text ≡ Ok unit
-  pub narrow : All Narrow unit.funcs
+  pub taken : Takes c unit
 
 -- a text spells one unit, or none
 one_unit : (spelled : Result SsaUnit TextRefusal) (u v : SsaUnit) → spelled ≡ Ok u → spelled ≡ Ok v → u ≡ v
@@ -52,67 +58,72 @@ unrefused : (spelled : Result SsaUnit TextRefusal) (u : SsaUnit) (refusal : Text
 unrefused spelled u refusal p q = let both : Ok u ≡ Err refusal = sym p ∙ q in cc
 
 -- such a text is built
-built : (text : List ℕ) → SpellsNarrow text → IsUnbuilt text → ⊥
-built text h other =
+built : (c : Command) (text : List ℕ) → SpellsTaken c text → LeavesUnbuilt c text → ⊥
+built (Compile regs) text h other =
     other.other (subst (λ u. All Narrow u.funcs)
-    (one_unit (read_unit text) h.unit other.unit h.read other.read) h.narrow)
+    (one_unit (read_unit text) h.unit other.unit h.read other.read) h.taken)
+built Run text h other = other
 
 -- and isn't refused
-unmisspelled : (text : List ℕ) (refusal : TextRefusal) → SpellsNarrow text → Misspells text refusal → ⊥
-unmisspelled text Wanting h bad = bad
-unmisspelled text refusal h bad = unrefused (read_unit text) h.unit refusal h.read bad
+unmisspelled : (c : Command) (text : List ℕ) (refusal : TextRefusal) → SpellsTaken c text → Misspells text refusal → ⊥
+unmisspelled c text Wanting h bad = bad
+unmisspelled c text refusal h bad = unrefused (read_unit text) h.unit refusal h.read bad
 
--- narrow functions fail no check
-unfailing : (u : SsaUnit) (told : CheckFault) → All Narrow u.funcs → IsFirstFault u told → ⊥
-unfailing u told narrow bad =
+-- function i of a unit that a command takes meets all checks
+taken_accepted : (c : Command) (u : SsaUnit) (i : ℕ) (f : Func) → Takes c u → slice_get u.funcs i ≡ Some f → MeetsAll u f
+taken_accepted (Compile regs) u i f h at = narrow_accepted u f (narrow_at u.funcs i f h at)
+taken_accepted Run u i f h at =
+    subst (MeetsAll u) (get_or_from_slice_get u.funcs i f f at) (h i f (slice_get_within u.funcs i f at))
+
+-- so it fails none
+unfailing : (c : Command) (u : SsaUnit) (told : CheckFault) → Takes c u → IsFirstFault u told → ⊥
+unfailing c u told h bad =
     let first = bad.first in
-    let func = narrow_at u.funcs bad.fault.func first.func narrow first.is_its in
-    narrow_accepted u first.func func bad.fault.check bad.fault.at first.fault_of.place.fails
+    taken_accepted c u bad.fault.func first.func h first.is_its bad.fault.check bad.fault.at first.fault_of.place.fails
 
--- so its unit fails none
-passing : (text : List ℕ) (told : CheckFault) → SpellsNarrow text → FailsCheck text told → ⊥
-passing text told h bad =
-    unfailing bad.unit told (subst (λ u. All Narrow u.funcs)
-    (one_unit (read_unit text) h.unit bad.unit h.read bad.read) h.narrow) bad.first
+passing : (c : Command) (text : List ℕ) (told : CheckFault) → SpellsTaken c text → FailsCheck text told → ⊥
+passing c text told h bad =
+    unfailing c bad.unit told (subst (Takes c) (one_unit (read_unit text) h.unit bad.unit h.read bad.read) h.taken) bad.first
 
-complete_by_outcome : (regs : ℕ) (before after : World) (status : Status) (outcome : Outcome)
+complete_by_outcome : (command : Command) (before after : World) (status : Status) (outcome : Outcome)
     → status ≡ status_of outcome
-    → CompileCause regs before after outcome → ¬ Faulted before.read_faults after.read_faults
+    → CommandCause command before after outcome → ¬ Faulted before.read_faults after.read_faults
     → ¬ Faulted before.write_faults after.write_faults
-    → (text : List ℕ) → before.left ≡ Some text → length text ≤ input_limit → SpellsNarrow text
+    → (text : List ℕ) → before.left ≡ Some text → length text ≤ input_limit → SpellsTaken command text
     → (status ≡ IsDone) ⊎ (status ≡ IsNoMemory)
-complete_by_outcome regs before after status Done e c no_read no_write text left few h = inl e
-complete_by_outcome regs before after status NotBuilt e c no_read no_write text left few h =
-    absurd (built text h (subst IsUnbuilt
+complete_by_outcome command before after status Done e c no_read no_write text left few h = inl e
+complete_by_outcome command before after status NotBuilt e c no_read no_write text left few h =
+    absurd (built command text h (subst (LeavesUnbuilt command)
     (whole_is before.left after.left text c.text left c.read.all c.read.end) c.unbuilt))
-complete_by_outcome regs before after status TooLong e c no_read no_write text left few h =
+complete_by_outcome command before after status TooLong e c no_read no_write text left few h =
     absurd (omega (arith, read_within before.left after.left text c.read.bytes left c.read.read, c.read.past, few))
-complete_by_outcome regs before after status (Text refusal) e c no_read no_write text left few h =
-    absurd (unmisspelled text refusal h (subst (λ t. Misspells t refusal)
+complete_by_outcome command before after status (Text refusal) e c no_read no_write text left few h =
+    absurd (unmisspelled command text refusal h (subst (λ t. Misspells t refusal)
     (whole_is before.left after.left text c.text left c.read.all c.read.end) c.refused))
-complete_by_outcome regs before after status (Check fault) e c no_read no_write text left few h =
-    absurd (passing text fault h (subst (λ t. FailsCheck t fault)
+complete_by_outcome command before after status (Check fault) e c no_read no_write text left few h =
+    absurd (passing command text fault h (subst (λ t. FailsCheck t fault)
     (whole_is before.left after.left text c.text left c.read.all c.read.end) c.refused))
-complete_by_outcome regs before after status Usage e c no_read no_write text left few h = absurd c
-complete_by_outcome regs before after status ReadFault e c no_read no_write text left few h =
+complete_by_outcome command before after status Usage e c no_read no_write text left few h = absurd c
+complete_by_outcome command before after status ReadFault e c no_read no_write text left few h =
     absurd (no_read c.faulted)
-complete_by_outcome regs before after status WriteFault e c no_read no_write text left few h =
+complete_by_outcome command before after status WriteFault e c no_read no_write text left few h =
     absurd (no_write c.faulted)
-complete_by_outcome regs before after status NoMemory e c no_read no_write text left few h = inr e
+complete_by_outcome command before after status NoMemory e c no_read no_write text left few h = inr e
 
-complete_by_command : (command : Option Command) (before after : World) (status : Status) (outcome : Outcome)
+complete_by_command : (found : Option Command) (command : Command) (before after : World) (status : Status) (outcome : Outcome)
     → status ≡ status_of outcome
-    → Cause command before after outcome → IsSome command → ¬ Faulted before.read_faults after.read_faults
+    → Cause found before after outcome → found ≡ Some command → ¬ Faulted before.read_faults after.read_faults
     → ¬ Faulted before.write_faults after.write_faults → (text : List ℕ) → before.left ≡ Some text
     → length text ≤ input_limit
-    → SpellsNarrow text → (status ≡ IsDone) ⊎ (status ≡ IsNoMemory)
-complete_by_command None before after status outcome e c some no_read no_write text left few h = cc
-complete_by_command (Some (Compile regs)) before after status outcome e c some no_read no_write text left few h =
-    complete_by_outcome regs before after status outcome e c no_read no_write text left few h
+    → SpellsTaken command text → (status ≡ IsDone) ⊎ (status ≡ IsNoMemory)
+complete_by_command None command before after status outcome e c is no_read no_write text left few h = cc
+complete_by_command (Some other) command before after status outcome e c is no_read no_write text left few h =
+    let same : other ≡ command = cc in
+    complete_by_outcome command before after status outcome e (subst (λ d. CommandCause d before after outcome) same c) no_read no_write text left few h
 
 pub complete : (words : List (List ℕ)) (before after : World) (status : Status) (outcome : Outcome)
     → status ≡ status_of outcome
     → Cause (command_of words) before after outcome → IsComplete words before after status
-complete words before after status outcome e cause some no_read no_write text left few u read narrow =
-    complete_by_command (command_of words) before after status outcome e cause some no_read no_write text left few
-    (record { unit = u; read = read; narrow = narrow })
+complete words before after status outcome e cause command is no_read no_write text left few u read taken =
+    complete_by_command (command_of words) command before after status outcome e cause is no_read no_write text left few
+    (record { unit = u; read = read; taken = taken })

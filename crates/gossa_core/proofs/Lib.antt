@@ -20,6 +20,10 @@ mod PartTestLemmas
 mod PlacedLemmas
 mod PlainRun
 mod RowRun
+mod ShownPieceLemmas
+mod ShownRunLemmas
+mod ShownWordLemmas
+mod SigTableLemmas
 mod SliceLemmas
 mod SpillFacts
 mod StraightLemmas

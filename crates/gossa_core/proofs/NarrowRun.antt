@@ -15,7 +15,8 @@ use Rattle.ssa_ir.specs.declared.case.End.TheVariants.{Returned, Going}
 use Rattle.ssa_ir.specs.declared.case.Shown.{Shown}
 use Rattle.ssa_ir.specs.FirstOrder.{is_phi, is_follower, reads_memory, memory_taken, same_memory, same_value, has_value, is_placed, readers_before, is_ready, ready_or_later, split_ready, item, next_then, placed_next, first_order}
 use Rattle.ssa_ir.specs.Inputs.{Inputs, argument}
-use Rattle.ssa_ir.specs.Run.{Callees, State, put, with_word, generic, value_named, result_words, run_values, begun, run}
+use Rattle.ssa_ir.specs.Lookups.{value_named}
+use Rattle.ssa_ir.specs.Run.{Callees, State, put, with_word, generic, result_words, run_values, begun, run}
 use Rattle.ssa_ir.specs.Showing.{ends, words_at}
 use Rattle.gossa_core.specs.Narrow.{Step, TakeArg, MakeConst, AddTwo, vid, step_value, init_value, result_value, values_from, block_of, func_of, IsAbove, StepFits, StepsFit, Narrow}
 use Rattle.gossa_core.proofs.NarrowLemmas.{step_number, result_named}
@@ -189,16 +190,16 @@ narrow_shown inputs steps r (suc n) =
     ends (Returned (low 64 (words_after inputs (λ k. 0) 2 steps r) ∷ []) (changed inputs.memory inputs.memory))
 
 -- the run of the steps
-run_steps : (callees : Callees) (inputs : Inputs) (n : ℕ) (steps : List Step) (r : ℕ) (s : State) (go : State → Shown)
-    → run_values (generic callees) inputs (values_from n steps r) s go
+run_steps : (callees : Callees) (inputs : Inputs) (block : List Value) (n : ℕ) (steps : List Step) (r : ℕ) (s : State) (go : State → Shown)
+    → run_values (generic callees) inputs block (values_from n steps r) s go
     ≡ go (record s { words = words_after inputs s.words n steps })
-run_steps callees inputs n [] r s go = refl
-run_steps callees inputs n (TakeArg i ∷ steps) r s go =
-    run_steps callees inputs (suc n) steps r (with_word s n (low 64 (argument inputs i))) go
-run_steps callees inputs n (MakeConst c ∷ steps) r s go =
-    run_steps callees inputs (suc n) steps r (with_word s n (low 64 (word_of c))) go
-run_steps callees inputs n (AddTwo a b ∷ steps) r s go =
-    run_steps callees inputs (suc n) steps r (with_word s n (low 64 (s.words a + s.words b))) go
+run_steps callees inputs block n [] r s go = refl
+run_steps callees inputs block n (TakeArg i ∷ steps) r s go =
+    run_steps callees inputs block (suc n) steps r (with_word s n (low 64 (argument inputs i))) go
+run_steps callees inputs block n (MakeConst c ∷ steps) r s go =
+    run_steps callees inputs block (suc n) steps r (with_word s n (low 64 (word_of c))) go
+run_steps callees inputs block n (AddTwo a b ∷ steps) r s go =
+    run_steps callees inputs block (suc n) steps r (with_word s n (low 64 (s.words a + s.words b))) go
 
 -- the end of a narrow function, from the value that its control names
 abbrev returns : List Value → ValueId → State → Shown
@@ -215,8 +216,8 @@ steps_run callees name params steps r inputs (suc n) fit above =
     let go : State → Shown = returns values (vid (length steps + 2)) in
     let memory = inputs.memory in
     let w : ℕ → ℕ = words_after inputs (λ k. 0) 2 steps in
-    ap (λ l. run_values (generic callees) inputs l (begun inputs) go) (narrow_order params steps r fit above)
-    ∙ run_steps callees inputs 2 steps r (begun inputs) go
+    ap (λ l. run_values (generic callees) inputs values l (begun inputs) go) (narrow_order params steps r fit above)
+    ∙ run_steps callees inputs values 2 steps r (begun inputs) go
     ∙ ap (λ o. ends (Returned (words_at (I64 ∷ []) (result_words w o)) (changed memory memory))) (result_named steps r)
 
 -- the run of a narrow function

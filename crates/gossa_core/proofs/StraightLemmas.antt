@@ -1,6 +1,7 @@
 -- Stretches of lines that only move and compute.
 use Rattle.std.proofs.Common.{◌≡◌, ℕ, zero, suc, ◌+◌, List, [], ◌∷◌, ◌++◌, length, drop, Option, None, Some, slice_get, refl, ap, ◌∙◌, arith}
-use Rattle.ssa_ir.specs.Evaluation.{Computes, role}
+use Rattle.ssa_ir.specs.declared.role.Role.TheVariants.{Computes}
+use Rattle.ssa_ir.specs.Roles.{role}
 use Rattle.ssa_ir.specs.Inputs.{Inputs}
 use Rattle.ssa_ir.specs.Run.{Callees}
 use Rattle.listing.specs.declared.line.Line.{Line}

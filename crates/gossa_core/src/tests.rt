@@ -95,23 +95,23 @@ RET\n";
 
 /// How the streams of a run move: the most bytes of one call, and which calls fail, by their numbers from 1.
 #[derive(Clone, Copy)]
-struct Streams<'a> {
-    piece: usize,
-    read_faults: &'a [u64],
-    write_faults: &'a [u64],
-    tell_faults: &'a [u64],
+pub(crate) struct Streams<'a> {
+    pub piece: usize,
+    pub read_faults: &'a [u64],
+    pub write_faults: &'a [u64],
+    pub tell_faults: &'a [u64],
 }
 
 /// What a run has to come to: its status, what it wrote and told, and what it left unread.
 #[derive(Clone, Copy)]
-struct Wanted<'a> {
-    status: Status,
-    written: &'a [u8],
-    told: &'a [u8],
-    left: &'a [u8],
+pub(crate) struct Wanted<'a> {
+    pub status: Status,
+    pub written: &'a [u8],
+    pub told: &'a [u8],
+    pub left: &'a [u8],
 }
 
-const SOUND: Streams<'static> = Streams {
+pub(crate) const SOUND: Streams<'static> = Streams {
     piece: 4096,
     read_faults: &[],
     write_faults: &[],
@@ -125,14 +125,14 @@ const BYTE_BY_BYTE: Streams<'static> = Streams {
     tell_faults: &[],
 };
 
-const READ_FAULT: Streams<'static> = Streams {
+pub(crate) const READ_FAULT: Streams<'static> = Streams {
     piece: 16,
     read_faults: &[2],
     write_faults: &[],
     tell_faults: &[],
 };
 
-const WRITE_FAULT: Streams<'static> = Streams {
+pub(crate) const WRITE_FAULT: Streams<'static> = Streams {
     piece: 16,
     read_faults: &[],
     write_faults: &[3],
@@ -169,7 +169,7 @@ fn owned(alloc: Global, words: &[&str]) -> Result<Vec<String>, AllocError> {
 }
 
 // Runs the program with these words over this input, and sees that it comes to what is wanted.
-fn check_run(
+pub(crate) fn check_run(
     rt: &(impl Abort + AllocGlobal),
     words: &[&str],
     input: &[u8],
@@ -393,7 +393,8 @@ fn compiles_the_largest(rt: HostRuntime) -> Result<(), Fail> {
 #[test]
 fn tells_its_usage_and_reads_nothing(rt: HostRuntime) -> Result<(), Fail> {
     check_usage(&rt, &[])?;
-    check_usage(&rt, &["run"])?;
+    check_usage(&rt, &["step"])?;
+    check_usage(&rt, &["run", "run"])?;
     check_usage(&rt, &["compile", "x"])?;
     Ok(())
 }
@@ -440,6 +441,8 @@ fn tells_which_stream_failed(rt: HostRuntime) -> Result<(), Fail> {
 fn knows_its_words(rt: HostRuntime) -> Result<(), Fail> {
     let compile = owned(rt.alloc(), &["compile"])?;
     assert!(rt; read_words(compile.as_slice()) == Some(Command::Compile { regs: 24 }));
+    let run = owned(rt.alloc(), &["run"])?;
+    assert!(rt; read_words(run.as_slice()) == Some(Command::Run));
     let other = owned(rt.alloc(), &["compiled"])?;
     assert!(rt; read_words(other.as_slice()) == None);
     Ok(())

@@ -7,17 +7,24 @@ ghost use Rattle.ssa_ir.specs.WellFormed.{WellFormed};
 ghost use Rattle.ssa_text.specs.UnitReading as spelling;
 ghost use Rattle.ssa_check.specs.Failing.{Accepted, FirstFault};
 ghost use Rattle.gossa_core.specs.Narrow.{Narrow};
-ghost use Rattle.gossa_core.specs.Words.{command_of};
-ghost use Rattle.gossa_core.specs.Answer.{output_of, input_limit, Compiles, CompileCause, Cause, Answers, IsComplete};
-ghost use Rattle.gossa_core.specs.Unlisted.{Unchecked, Unlisted};
+ghost use Rattle.gossa_core.specs.declared.words.Command.{Command as IrCommand};
+ghost use Rattle.gossa_core.specs.declared.words.Command.TheVariants as command;
+ghost use Rattle.gossa_core.specs.Answer.{Answers, IsComplete};
+ghost use Rattle.gossa_core.specs.Causes.{CommandCause, Cause};
+ghost use Rattle.gossa_core.specs.Compiled.{output_of};
+ghost use Rattle.gossa_core.specs.Outputs.{input_limit, Makes};
+ghost use Rattle.gossa_core.specs.Unmade.{Unchecked, Unmade};
+ghost use Rattle.gossa_core.specs.Words.{command_of, HasRegisters};
 
+use crate::names::same_name;
 use crate::narrow::all_narrow;
 use crate::plain::allocate_all;
+use crate::run::show_cases;
 use crate::status::{CheckFault, Outcome, Status};
 use crate::telling::tell;
 use crate::words::{Command, read_words};
 use gossa_base::{
-    Bytes, Failed, Name, NoMemory, ReadRefusal, Sequence, Sink, Source, put, read_all, write_all,
+    Bytes, Failed, NoMemory, ReadRefusal, Sequence, Sink, Source, put, read_all, write_all,
 };
 use listing::{Listings, print_listing};
 use ssa_check::{CheckRefusal, Checked, Fault, check};
@@ -25,13 +32,14 @@ use ssa_ir::SsaUnit;
 use ssa_text::{TextRefusal, print_unit_cases, read_unit};
 use std::alloc::Global;
 
-/// How many bytes `compile` reads at the most.
+/// How many bytes are read at the most.
 const INPUT_LIMIT: usize = 8_388_608;
 
 /// Does what the words say: reads `source`, writes to `sink`, and one line to `errs` where that went wrong.
 ///
-/// The words are looked at first, then the input is read to its end, then the unit that it spells is checked, judged and
-/// compiled, and then all output is written. So nothing is in `sink` unless the answer is `Done` or `WriteFault`.
+/// The words are looked at first, then the input is read to its end, then the unit that it spells is checked, then it is
+/// judged and compiled, or its cases are run, and then all output is written. So nothing is in `sink` unless the answer is
+/// `Done` or `WriteFault`.
 pub fn gossa<S: Source, K: Sink, E: Sink>(
     alloc: Global,
     words: &[String],
@@ -50,13 +58,18 @@ pub fn gossa<S: Source, K: Sink, E: Sink>(
         (record { left = S.left source.new; read_faults = S.faults source.new; held = K.held sink.new; write_faults = K.faults sink.new })
         result }
 {
-    let outcome = run(alloc, words, source, sink);
+    let outcome = answer(alloc, words, source, sink);
     tell(errs, &outcome);
     outcome.status()
 }
 
 // Does what the words say, and answers how it went.
-fn run<S: Source, K: Sink>(alloc: Global, words: &[String], source: &mut S, sink: &mut K) -> Outcome
+fn answer<S: Source, K: Sink>(
+    alloc: Global,
+    words: &[String],
+    source: &mut S,
+    sink: &mut K,
+) -> Outcome
     ensures { Cause (command_of (map string_bytes words.now))
         (record { left = S.left source.old; read_faults = S.faults source.old; held = K.held sink.old; write_faults = K.faults sink.old })
         (record { left = S.left source.new; read_faults = S.faults source.new; held = K.held sink.new; write_faults = K.faults sink.new })
@@ -64,15 +77,19 @@ fn run<S: Source, K: Sink>(alloc: Global, words: &[String], source: &mut S, sink
 {
     match read_words(words) {
         None => Outcome::Usage,
-        Some(Command::Compile { regs }) => compile(alloc, regs, source, sink),
+        Some(command) => obey(alloc, command, source, sink),
     }
 }
 
-// Reads a unit, and writes its listings.
-fn compile<S: Source, K: Sink>(alloc: Global, regs: u32, source: &mut S, sink: &mut K) -> Outcome
-    requires many { 16 ≤ regs }
-    requires most { regs ≤ 24 }
-    ensures { CompileCause regs
+// Reads a unit, and writes what the command makes of it.
+fn obey<S: Source, K: Sink>(
+    alloc: Global,
+    command: Command,
+    source: &mut S,
+    sink: &mut K,
+) -> Outcome
+    requires { HasRegisters command }
+    ensures { CommandCause command
         (record { left = S.left source.old; read_faults = S.faults source.old; held = K.held sink.old; write_faults = K.faults sink.old })
         (record { left = S.left source.new; read_faults = S.faults source.new; held = K.held sink.new; write_faults = K.faults sink.new })
         result }
@@ -83,7 +100,7 @@ fn compile<S: Source, K: Sink>(alloc: Global, regs: u32, source: &mut S, sink: &
         Err(ReadRefusal::TooLong) => return Outcome::TooLong,
         Err(ReadRefusal::NoMemory) => return Outcome::NoMemory,
     };
-    match compile_text(alloc, text.as_slice(), regs) {
+    match make_output(alloc, command, text.as_slice()) {
         Ok(output) => match write_all(sink, output.as_slice()) {
             Ok(()) => Outcome::Done,
             Err(Failed) => Outcome::WriteFault,
@@ -92,13 +109,26 @@ fn compile<S: Source, K: Sink>(alloc: Global, regs: u32, source: &mut S, sink: &
     }
 }
 
+// What the command makes of a text, or how the program ends without any output.
+fn make_output(alloc: Global, command: Command, text: &[u8]) -> Result<Bytes, Outcome>
+    requires few { length text.now ≤ input_limit }
+    requires registers { HasRegisters command }
+    ensures made { IfOk result (λ output. Makes command text.now output) }
+    ensures unmade { IfErr result (λ outcome. Unmade command text.now outcome) }
+{
+    match command {
+        Command::Compile { regs } => compile_text(alloc, text, regs),
+        Command::Run => run_text(alloc, text),
+    }
+}
+
 // The listings of the unit that this text spells, or how the program ends without any.
 fn compile_text(alloc: Global, text: &[u8], regs: u32) -> Result<Bytes, Outcome>
     requires few { length text.now ≤ input_limit }
     requires many { 16 ≤ regs }
     requires most { regs ≤ 24 }
-    ensures listed { IfOk result (λ output. Compiles regs text.now output) }
-    ensures unlisted { IfErr result (λ outcome. Unlisted text.now outcome) }
+    ensures made { IfOk result (λ output. Makes (command.Compile regs) text.now output) }
+    ensures unmade { IfErr result (λ outcome. Unmade (command.Compile regs) text.now outcome) }
 {
     let checked = read_checked(alloc, text)?;
     let unit = checked.into_unit();
@@ -111,12 +141,25 @@ fn compile_text(alloc: Global, text: &[u8], regs: u32) -> Result<Bytes, Outcome>
     }
 }
 
+// What the cases of the unit that this text spells show, or how the program ends without that.
+fn run_text(alloc: Global, text: &[u8]) -> Result<Bytes, Outcome>
+    requires few { length text.now ≤ input_limit }
+    ensures made { IfOk result (λ output. Makes command.Run text.now output) }
+    ensures unmade { IfErr result (λ outcome. Unmade command.Run text.now outcome) }
+{
+    let accepted = read_checked(alloc, text)?;
+    match show_cases(alloc, &accepted) {
+        Ok(output) => Ok(output),
+        Err(NoMemory) => Err(Outcome::NoMemory),
+    }
+}
+
 // The unit that this text spells and that all checks accept, or how the program ends without one.
 fn read_checked(alloc: Global, text: &[u8]) -> Result<Checked, Outcome>
     requires few { length text.now ≤ input_limit }
     ensures spelled { IfOk result (λ checked. spelling.read_unit text.now ≡ Ok checked) }
     ensures accepted { IfOk result Accepted }
-    ensures unlisted { IfErr result (λ outcome. Unlisted text.now outcome) }
+    ensures unmade { (c : IrCommand) → IfErr result (λ outcome. Unmade c text.now outcome) }
 {
     let unit = read_text(alloc, text)?;
     check_unit(alloc, unit)
@@ -127,7 +170,7 @@ fn read_text(alloc: Global, text: &[u8]) -> Result<SsaUnit, Outcome>
     requires few { length text.now ≤ input_limit }
     ensures spelled { IfOk result (λ unit. spelling.read_unit text.now ≡ Ok unit) }
     ensures well_formed { IfOk result WellFormed }
-    ensures unlisted { IfErr result (λ outcome. Unlisted text.now outcome) }
+    ensures unmade { (c : IrCommand) → IfErr result (λ outcome. Unmade c text.now outcome) }
 {
     match read_unit(alloc, text) {
         Ok(unit) => Ok(unit),
@@ -164,13 +207,6 @@ fn name_fault(unit: &SsaUnit, fault: Fault) -> Outcome
         }),
         Err(NoMemory) => Outcome::NoMemory,
     }
-}
-
-// The same name once more.
-fn same_name(name: &Name) -> Result<Name, NoMemory>
-    ensures { IfOk result (λ same. same ≡ name.now) }
-{
-    Ok(name.clone()?)
 }
 
 // The listings of a unit of narrow functions, and behind them its cases.

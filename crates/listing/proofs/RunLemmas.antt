@@ -5,8 +5,10 @@ use Rattle.gossa_base.specs.declared.ids.BlockId.{BlockId}
 use Rattle.ssa_ir.specs.declared.case.End.TheVariants.{Going}
 use Rattle.ssa_ir.specs.declared.case.Shown.{Shown}
 use Rattle.ssa_ir.specs.declared.op.Op.{Op}
-use Rattle.ssa_ir.specs.Evaluation.{Role, Computes, TakesParameter, Rests, NotBuilt, role}
 use Rattle.ssa_ir.specs.Inputs.{Inputs}
+use Rattle.ssa_ir.specs.declared.role.Role.{Role}
+use Rattle.ssa_ir.specs.declared.role.Role.TheVariants.{Computes, TakesParameter, TakesAddress, Loads, Stores, ChecksNil, Calls, Rests, NotBuilt}
+use Rattle.ssa_ir.specs.Roles.{role}
 use Rattle.ssa_ir.specs.Run.{Callees, is_set}
 use Rattle.ssa_ir.specs.Showing.{ends}
 use Rattle.ssa_ir.proofs.RunLemmas.{Stays, stays_either}
@@ -36,6 +38,11 @@ computing_stays : (r : Role) (op : Op) (aux : ℤ) (o : Operands) (go more : Mac
     → ((k : Machine) → Stays (go k) (more k)) → Stays (run_computing r op aux o go m) (run_computing r op aux o more m)
 computing_stays Computes op aux o go more m h = h (with_computed op aux o m)
 computing_stays TakesParameter op aux o go more m h = h m
+computing_stays TakesAddress op aux o go more m h = λ _. refl
+computing_stays Loads op aux o go more m h = λ _. refl
+computing_stays Stores op aux o go more m h = λ _. refl
+computing_stays ChecksNil op aux o go more m h = λ _. refl
+computing_stays Calls op aux o go more m h = λ _. refl
 computing_stays Rests op aux o go more m h = h m
 computing_stays NotBuilt op aux o go more m h = λ _. refl
 

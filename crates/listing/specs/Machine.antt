@@ -9,9 +9,12 @@ use Rattle.ssa_ir.specs.declared.case.End.TheVariants.{Returned, Trapped, Exited
 use Rattle.ssa_ir.specs.declared.case.Shown.{Shown}
 use Rattle.ssa_ir.specs.declared.op.Op.{Op}
 use Rattle.ssa_ir.specs.ArgumentPlaces.{result_places}
-use Rattle.ssa_ir.specs.Evaluation.{eval, Role, Computes, TakesParameter, Rests, NotBuilt, role}
+use Rattle.ssa_ir.specs.Evaluation.{eval}
 use Rattle.ssa_ir.specs.Inputs.{Inputs, Answer, symbol_word}
 use Rattle.ssa_ir.specs.Edges.{same_block}
+use Rattle.ssa_ir.specs.declared.role.Role.{Role}
+use Rattle.ssa_ir.specs.declared.role.Role.TheVariants.{Computes, TakesParameter, TakesAddress, Loads, Stores, ChecksNil, Calls, Rests, NotBuilt}
+use Rattle.ssa_ir.specs.Roles.{role}
 use Rattle.ssa_ir.specs.Run.{Callees, put, is_set}
 use Rattle.ssa_ir.specs.Showing.{ends, words_at}
 use Rattle.listing.specs.declared.line.Line.{Line}
@@ -78,10 +81,16 @@ with_result m (Some r) w = with_place (Reg r) w m
 abbrev pub with_computed : Op → ℤ → Operands → Machine → Machine
 with_computed op aux o m = with_result m o.dst (eval op aux (register_word m o.a) (register_word m o.b) 0 m.flags)
 
--- a computing line whose op has this role, and then the rest of the run; an op that isn't built ends it stuck
+-- a computing line whose op has this role, and then the rest of the run; an op that isn't built ends it stuck, and no load
+-- or store of the machine is built. An address is a move, and a nil check and a call have lines of their own
 abbrev pub run_computing : Role → Op → ℤ → Operands → (go : Machine → Shown) → Machine → Shown
 run_computing Computes op aux o go m = go (with_computed op aux o m)
 run_computing TakesParameter op aux o go m = go m
+run_computing TakesAddress op aux o go m = ends Stuck
+run_computing Loads op aux o go m = ends Stuck
+run_computing Stores op aux o go m = ends Stuck
+run_computing ChecksNil op aux o go m = ends Stuck
+run_computing Calls op aux o go m = ends Stuck
 run_computing Rests op aux o go m = go m
 run_computing NotBuilt op aux o go m = ends Stuck
 

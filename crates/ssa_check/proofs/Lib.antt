@@ -15,6 +15,8 @@ pub mod EdgeCountLemmas
 pub mod EdgeLemmas
 pub mod EdgeOrderLemmas
 pub mod EntryLemmas
+pub mod FirstOrderLemmas
+pub mod FirstOrderWhole
 pub mod FirstPlaceLemmas
 pub mod FlowLemmas
 pub mod FlowPaths
@@ -25,6 +27,9 @@ pub mod ItemOwners
 pub mod ItemStands
 pub mod ItemSteps
 pub mod ItemWalks
+pub mod LastDefinerBlocks
+pub mod LastDefinerLemmas
+pub mod LeastPlaceLemmas
 pub mod LowestLemmas
 pub mod MemoryBlockLemmas
 pub mod MemoryLawLemmas
@@ -38,6 +43,7 @@ pub mod PassedLemmas
 pub mod PassedMemory
 pub mod PlaceLemmas
 pub mod SignatureLemmas
+pub mod StandingLemmas
 pub mod TypeLemmas
 pub mod UndefinedLemmas
 pub mod UndefinedPathLemmas

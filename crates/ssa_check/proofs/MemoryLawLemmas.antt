@@ -1,7 +1,7 @@
 -- In accepted functions the memory that is named is the last definer passed, on every path.
 use Rattle.std.proofs.Common.{◌≡◌, ◌⊎◌, inl, inr, Bool, true, false, ◌||◌, List, ◌∷◌, find, Option, None, Some, eqb, refl, sym, subst, ap, ◌∙◌}
 use Rattle.std.specs.List.{Contains, last_or}
-use Rattle.std.proofs.lemmas.Bool.{eqb-true, eqb-false, or_left, or_right}
+use Rattle.std.proofs.lemmas.Bool.{both_ways, eqb-true, eqb-false, or_left, or_right}
 use Rattle.gossa_base.specs.declared.ids.ValueId.{ValueId}
 use Rattle.ssa_ir.specs.declared.func.Block.{Block}
 use Rattle.ssa_ir.specs.declared.func.Func.{Func}
@@ -14,53 +14,40 @@ use Rattle.ssa_check.specs.declared.refusal.Check.{Check}
 use Rattle.ssa_check.specs.declared.refusal.Check.TheVariants.{Memory}
 use Rattle.ssa_check.specs.declared.memories.Leaves.TheVariants.{Through, Known, Unknown}
 use Rattle.ssa_check.specs.BlockChecks.{is_result}
-use Rattle.ssa_check.specs.Failing.{BlockFails, MeetsAll, ValueFails}
-use Rattle.ssa_check.specs.MemoryChains.{Chained, inner_of, is_inner, is_memory_phi, taken_by, takes, takes_inner}
+use Rattle.ssa_check.specs.Failing.{BlockFails, ValueFails}
+use Rattle.ssa_check.specs.MemoryChains.{Chained, has_definer, inner_of, is_inner, is_memory_phi, taken_by, takes, takes_inner}
 use Rattle.ssa_check.specs.MemoryLaws.{Begins, BeginsBy, Ends, MemoryIsPassed, PhiIsPassed, Starts, TakesEnd, TakesPassed}
 use Rattle.ssa_check.specs.MemoryPaths.{Asked, ComesIn, IsIncoming, IsIncomingBy, IsOutgoing, Passes, TakesOther, is_exit, uses_memory}
 use Rattle.ssa_check.specs.PathLaws.{AcceptedFunc}
 use Rattle.ssa_check.specs.Paths.{IsPath, Reached}
 use Rattle.ssa_check.specs.ValueChecks.{is_entry}
 use Rattle.ssa_check.proofs.ChainLemmas.{one_last}
-use Rattle.ssa_check.proofs.ItemLists.{all_at, any_at, any_from_at, contains_at, find_any}
+use Rattle.ssa_check.proofs.DefinedLemmas.{meets_all, well_formed_func}
+use Rattle.ssa_check.proofs.FirstOrderLemmas.{id_equal}
+use Rattle.ssa_check.proofs.ItemLists.{any_at, any_from_at, contains_at, find_any}
 use Rattle.ssa_check.proofs.ItemStands.{same_memories}
 use Rattle.ssa_check.proofs.PassedMemory.{Leaving, PassesNone, PassesSome, chained_or_not, decide_passes, incoming_there, leaves_of, path_within, same_incoming, same_passes}
 
-clash : {t : Bool} → t ≡ true → t ≡ false → ⊥
-clash a b = let e : true ≡ false = sym a ∙ b in cc
-
 -- ---- what an accepted function has
-
-pub well_formed_of : (u : SsaUnit) (f : Func) → AcceptedFunc u f → WellFormedFunc f
-well_formed_of u f h =
-    let place = contains_at u.funcs f h.is_of in
-    all_at WellFormedFunc u.funcs place.0 f h.well_formed.each_function place.1
-
-pub meets_of : (u : SsaUnit) (f : Func) → AcceptedFunc u f → MeetsAll u f
-meets_of u f h =
-    let place = contains_at u.funcs f h.is_of in all_at (MeetsAll u) u.funcs place.0 f h.accepted place.1
 
 pub no_value_fails : (u : SsaUnit) (f : Func) → AcceptedFunc u f → (c : Check) (b : Block) → Contains f.blocks b → (v : Value)
     → Contains b.values v → ValueFails c u f b v → ⊥
 no_value_fails u f h c b there v stands fails =
     let block = contains_at f.blocks b there in
     let value = contains_at b.values v stands in
-    meets_of u f h c (AtValue v.id)
+    meets_all u f h c (AtValue v.id)
     (any_from_at _ f.blocks block.0 b block.1 (any_from_at _ b.values value.0 v value.1 (refl, fails)))
 
 pub no_block_fails : (u : SsaUnit) (f : Func) → AcceptedFunc u f → (c : Check) (b : Block) → Contains f.blocks b
     → BlockFails c u f b → ⊥
 no_block_fails u f h c b there fails =
     let block = contains_at f.blocks b there in
-    meets_of u f h c (AtBlock b.id) (any_from_at _ f.blocks block.0 b block.1 (refl, fails))
+    meets_all u f h c (AtBlock b.id) (any_from_at _ f.blocks block.0 b block.1 (refl, fails))
 
 -- ---- along one path to a block
 
-id_equal : (a b : ValueId) → a.0 ≡ b.0 → a ≡ b
-id_equal a b e = λ i. record { 0 = e i }
-
 -- the memory that is taken is the one that it is compared with
-taken_is : (taken : Option ValueId) (memory : ValueId) → same_memory taken (Some memory) ≡ true → taken ≡ Some memory
+pub taken_is : (taken : Option ValueId) (memory : ValueId) → same_memory taken (Some memory) ≡ true → taken ≡ Some memory
 taken_is taken memory same =
     let both : (m : ValueId) × (n : ValueId) × (taken ≡ Some m) × (Some memory ≡ Some n) × (m.0 ≡ n.0)
     = same_memories taken (Some memory) same in
@@ -78,7 +65,7 @@ one_of_three false false false (inr (inr e)) = cc
 module _ (u : SsaUnit) (f : Func) (h : AcceptedFunc u f) (b : Block) (there : Contains f.blocks b)
     (before : List Block) (is_path : IsPath f (b ∷ before)) where
   well : WellFormedFunc f
-  well = well_formed_of u f h
+  well = well_formed_func u f h
 
   reached : Reached f b
   reached = record { before = before; is_path = is_path }
@@ -151,8 +138,8 @@ module _ (u : SsaUnit) (f : Func) (h : AcceptedFunc u f) (b : Block) (there : Co
 
   same_outgoing : (x y : ValueId) → IsOutgoing f b x → IsOutgoing f b y → x ≡ y
   same_outgoing x y (inl one) (inl other) = one_last f well b there x y one.1 other.1
-  same_outgoing x y (inl one) (inr other) = absurd (clash one.0 other.0)
-  same_outgoing x y (inr one) (inl other) = absurd (clash other.0 one.0)
+  same_outgoing x y (inl one) (inr other) = absurd (both_ways (has_definer b) other.0 one.0)
+  same_outgoing x y (inr one) (inl other) = absurd (both_ways (has_definer b) one.0 other.0)
   same_outgoing x y (inr one) (inr other) = same_incoming f well b before is_path x y one.1 other.1
 
   end_by : (taken : Option ValueId) → Out → (TakesOther f b taken → ⊥) → TakesEnd f b before taken
@@ -200,7 +187,7 @@ module _ (u : SsaUnit) (f : Func) (h : AcceptedFunc u f) (b : Block) (there : Co
 -- a memory phi takes what was passed on the way that came
 pub phi_is_passed : (u : SsaUnit) (f : Func) → AcceptedFunc u f → (b : Block) → Contains f.blocks b → PhiIsPassed f b
 phi_is_passed u f h b there v k arg source before stands phi is_arg is_source is_path =
-    by_passed (decide_passes f (well_formed_of u f h) (source ∷ before) (path_within f (b ∷ source ∷ before) is_path).1)
+    by_passed (decide_passes f (well_formed_func u f h) (source ∷ before) (path_within f (b ∷ source ∷ before) is_path).1)
   where
     fails : (Passes f (source ∷ before) arg → ⊥) → ⊥
     fails other =
@@ -227,5 +214,5 @@ phi_is_passed u f h b there v k arg source before stands phi is_arg is_source is
             absurd (fails (λ passed.
             eqb-false some.0.0 arg.0 e
             (ap (λ (x : ValueId). x.0)
-            (same_passes f (well_formed_of u f h) (source ∷ before) (path_within f (b ∷ source ∷ before) is_path).1 some.0 arg some.1
+            (same_passes f (well_formed_func u f h) (source ∷ before) (path_within f (b ∷ source ∷ before) is_path).1 some.0 arg some.1
             passed))))

@@ -2,7 +2,7 @@
 use Rattle.std.proofs.Common.{◌≡◌, ℕ, zero, suc, ◌<◌, ◌≤◌, ◌⊎◌, inl, inr, Bool, true, false, ◌||◌, if◌then◌else◌, List, [], ◌∷◌, filter, find, length, Option, None, Some, eqb, refl, sym, subst, ap, ◌∙◌, arith}
 use Rattle.std.specs.List.{All, Contains, list_any}
 use Rattle.std.specs.Option.{option_map}
-use Rattle.std.proofs.lemmas.Bool.{eqb-true, eqb-false}
+use Rattle.std.proofs.lemmas.Bool.{both_ways, eqb-true, eqb-false, or_left, or_right}
 use Rattle.gossa_base.specs.declared.ids.ValueId.{ValueId}
 use Rattle.ssa_ir.specs.declared.func.Block.{Block}
 use Rattle.ssa_ir.specs.declared.func.Func.{Func}
@@ -18,6 +18,7 @@ use Rattle.ssa_check.specs.Paths.{IsPath}
 use Rattle.ssa_check.specs.ValueChecks.{is_entry, is_init}
 use Rattle.ssa_check.proofs.ChainLemmas.{one_last}
 use Rattle.ssa_check.proofs.ChainWalkLemmas.{leaves_chain, leaves_first, leaves_none}
+use Rattle.ssa_check.proofs.FirstOrderLemmas.{id_equal}
 
 zero_or_more : (n : ℕ) → (n ≡ 0) ⊎ (0 < n)
 zero_or_more zero = inl refl
@@ -27,9 +28,6 @@ few_or_more : (n : ℕ) → (n ≤ 1) ⊎ (1 < n)
 few_or_more zero = inl (omega arith)
 few_or_more (suc zero) = inl (omega arith)
 few_or_more (suc (suc n)) = inr (omega arith)
-
-clash : {t : Bool} → t ≡ true → t ≡ false → ⊥
-clash a b = let e : true ≡ false = sym a ∙ b in cc
 
 -- ---- what a block leaves
 
@@ -67,19 +65,11 @@ filter_none kept wide implies (x ∷ xs) none =
     by_tests false false imp again h = again h
 
 phi_defines : (v : Value) → is_memory_phi v ≡ true → is_definer v ≡ true
-phi_defines v phi = go (is_init v.op) (is_memory_phi v) (is_inner v) phi
-  where
-    go : (i p n : Bool) → p ≡ true → ((i || p) || n) ≡ true
-    go true p n e = refl
-    go false true n e = refl
-    go false false n e = cc
+phi_defines v phi =
+    or_left (begins_memory v) (is_inner v) (or_right (is_init v.op) (is_memory_phi v) phi)
 
-inner_defines : (v : Value) → is_inner v ≡ true → is_definer v ≡ true
-inner_defines v inner = go (begins_memory v) (is_inner v) inner
-  where
-    go : (t n : Bool) → n ≡ true → (t || n) ≡ true
-    go true n e = refl
-    go false n e = e
+pub inner_defines : (v : Value) → is_inner v ≡ true → is_definer v ≡ true
+inner_defines v inner = or_right (begins_memory v) (is_inner v) inner
 
 -- a block without definers is chained
 chained_empty : (f : Func) (b : Block) → has_definer b ≡ false → Chained f b
@@ -121,13 +111,13 @@ PassesNone f path = (memory : ValueId) → Passes f path memory → ⊥
 
 through_none : (f : Func) (b : Block) (before : List Block) → has_definer b ≡ false → PassesNone f before
     → PassesNone f (b ∷ before)
-through_none f b before none not memory (inl last) = clash last.0 none
+through_none f b before none not memory (inl last) = both_ways (has_definer b) none last.0
 through_none f b before none not memory (inr passed) = not memory passed.1
 
 unknown_none : (f : Func) (b : Block) (before : List Block) → has_definer b ≡ true → (Chained f b → ⊥)
     → PassesNone f (b ∷ before)
 unknown_none f b before has not memory (inl last) = not last.1.chained
-unknown_none f b before has not memory (inr passed) = clash has passed.0
+unknown_none f b before has not memory (inr passed) = both_ways (has_definer b) passed.0 has
 
 pub decide_passes : (f : Func) → WellFormedFunc f → (path : List Block) → Within f path
     → PassesSome f path ⊎ PassesNone f path
@@ -144,14 +134,11 @@ pub same_passes : (f : Func) → WellFormedFunc f → (path : List Block) → Wi
     → Passes f path y → x ≡ y
 same_passes f well [] within x y one other = absurd one
 same_passes f well (b ∷ before) within x y (inl one) (inl other) = one_last f well b within.0 x y one.1 other.1
-same_passes f well (b ∷ before) within x y (inl one) (inr other) = absurd (clash one.0 other.0)
-same_passes f well (b ∷ before) within x y (inr one) (inl other) = absurd (clash other.0 one.0)
+same_passes f well (b ∷ before) within x y (inl one) (inr other) = absurd (both_ways (has_definer b) other.0 one.0)
+same_passes f well (b ∷ before) within x y (inr one) (inl other) = absurd (both_ways (has_definer b) one.0 other.0)
 same_passes f well (b ∷ before) within x y (inr one) (inr other) = same_passes f well before within.1 x y one.1 other.1
 
 -- ---- the incoming memory of a block, by one path to it
-
-id_equal : (a b : ValueId) → a.0 ≡ b.0 → a ≡ b
-id_equal a b e = λ i. record { 0 = e i }
 
 module _ (f : Func) (well : WellFormedFunc f) (b : Block) (before : List Block) (is_path : IsPath f (b ∷ before)) where
   within_before : (other : List Block) → IsPath f (b ∷ other) → Within f other

@@ -12,6 +12,8 @@ pub mod EdgeTables
 pub mod Failing
 pub mod Flow
 pub mod Items
+pub mod LastDefiner
+pub mod LeastPlaces
 pub mod MemoryChains
 pub mod MemoryLaws
 pub mod MemoryPaths
@@ -23,6 +25,7 @@ pub mod PassedMemories
 pub mod PassedRows
 pub mod PassedSteps
 pub mod PathLaws
+pub mod PathTests
 pub mod Paths
 pub mod Selects
 pub mod SignatureTable

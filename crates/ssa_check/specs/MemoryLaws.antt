@@ -28,8 +28,8 @@ BeginsBy None f b before memory = Starts (is_entry f b) f b before memory
 abbrev pub Begins : Func → Block → (before : List Block) → ValueId → Type 0
 Begins f b before memory = BeginsBy (find is_memory_phi b.values) f b before memory
 
--- a value takes the memory with which the block begins, or that of an inner definer of the block. (Which of them stands before
--- it, the order of the block says.)
+-- a value takes the memory with which the block begins, or that of an inner definer of the block. (In first order it is the
+-- last one before it.)
 pub record TakesPassed (f : Func) (b : Block) (before : List Block) (v : Value) : Type 0 where
   pub memory : ValueId
   pub taken : taken_by f v ≡ Some memory

@@ -5,7 +5,7 @@ use Rattle.std.specs.Ordering.{int_eq}
 use Rattle.ssa_ir.specs.declared.op.Arity.{Arity}
 use Rattle.ssa_ir.specs.declared.op.Arity.TheVariants.{Exact, Any}
 use Rattle.ssa_ir.specs.declared.op.Op.{Op}
-use Rattle.ssa_ir.specs.declared.op.Op.TheVariants.{Arg, InitMem, Phi}
+use Rattle.ssa_ir.specs.declared.op.Op.TheVariants.{Arg, InitMem}
 use Rattle.ssa_ir.specs.declared.types.Scalar.{Scalar}
 use Rattle.ssa_ir.specs.declared.func.Block.{Block}
 use Rattle.ssa_ir.specs.declared.func.Func.{Func}

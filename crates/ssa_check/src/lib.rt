@@ -44,7 +44,7 @@ mod parameters;
 mod passed;
 mod reach;
 pub mod refusal;
-mod signatures;
+pub mod signatures;
 mod types;
 mod undefined;
 pub mod values;

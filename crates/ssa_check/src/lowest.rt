@@ -6,6 +6,7 @@ ghost use Rattle.ssa_ir.specs.declared.func.Block.{Block as IrBlock};
 ghost use Rattle.ssa_ir.specs.declared.func.Value.{Value as IrValue};
 ghost use Rattle.ssa_check.specs.Tables as spec;
 ghost use Rattle.ssa_check.specs.Failing.{at_value, at_block};
+ghost use Rattle.ssa_check.specs.LeastPlaces as places;
 
 use crate::refusal::At;
 use gossa_base::{BlockId, ValueId};
@@ -98,4 +99,16 @@ pub(crate) fn place_of_block(number: Option<u32>) -> Option<At>
         split: false,
         n: number?,
     }))
+}
+
+/// The least place of what fails: a value, and a block only where no value fails.
+pub(crate) fn least_place<T: ValueTest + BlockTest>(func: &Func, test: &T) -> Option<At>
+    requires values { All (λ b. All (T.ValueTest.takes test.now b) b.values) func.now.blocks }
+    requires blocks { All (T.BlockTest.takes test.now) func.now.blocks }
+    ensures { result ≡ places.least_place (T.ValueTest.fails test.now) (T.BlockTest.fails test.now) func.now }
+{
+    match value_place(lowest_value(func, test)) {
+        Some(place) => Some(place),
+        None => place_of_block(lowest_block(func, test)),
+    }
 }

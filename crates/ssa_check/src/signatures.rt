@@ -15,7 +15,7 @@ use std::marker::Model;
 
 /// The names of a unit's signatures, in order: those of its `sig` lines, and those of its functions.
 #[derive(Drop)]
-pub(crate) struct SignatureTable {
+pub struct SignatureTable {
     names: IndexSet<Name>,
 }
 
@@ -29,7 +29,7 @@ impl Model for SignatureTable {
 
 impl SignatureTable {
     /// The names of a unit's signatures.
-    pub(crate) fn new(alloc: Global, unit: &SsaUnit) -> Result<SignatureTable, NoMemory>
+    pub fn new(alloc: Global, unit: &SsaUnit) -> Result<SignatureTable, NoMemory>
         requires { WellFormed unit.now }
         ensures { IfOk result (λ table. table ≡ names_of unit.now) }
     {
@@ -42,7 +42,7 @@ impl SignatureTable {
     }
 
     /// The signature of this name in the unit of this table.
-    pub(crate) fn sig<'a>(&self, unit: &'a SsaUnit, name: &Name) -> Option<&'a Sig>
+    pub fn sig<'a>(&self, unit: &'a SsaUnit, name: &Name) -> Option<&'a Sig>
         requires { self.now ≡ names_of unit.now }
         ensures { option_copied result ≡ sig_of unit.now name.now }
     {

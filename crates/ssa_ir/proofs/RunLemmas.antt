@@ -1,6 +1,7 @@
 -- Runs with a larger bound: what ended stays as it was.
-use Rattle.std.proofs.Common.{◌≡◌, ◌≢◌, ℕ, zero, suc, ◌≤◌, Bool, true, false, cond, List, [], ◌∷◌, length, Option, None, Some, slice_get, refl, arith}
+use Rattle.std.proofs.Common.{◌≡◌, ◌≢◌, ℕ, zero, suc, ◌≤◌, Bool, true, false, cond, eqb, List, [], ◌∷◌, length, Option, None, Some, slice_get, unwrap_or, refl, ap, arith}
 use Rattle.gossa_base.specs.declared.ids.BlockId.{BlockId}
+use Rattle.ssa_ir.specs.declared.case.CallShown.{CallShown}
 use Rattle.ssa_ir.specs.declared.case.End.TheVariants.{Going}
 use Rattle.ssa_ir.specs.declared.case.Shown.{Shown}
 use Rattle.ssa_ir.specs.declared.func.Value.{Value}
@@ -9,10 +10,14 @@ use Rattle.ssa_ir.specs.declared.func.Kind.TheVariants.{Plain, If, Ret, Exit, Co
 use Rattle.ssa_ir.specs.declared.func.Block.{Block}
 use Rattle.ssa_ir.specs.declared.func.Func.{Func}
 use Rattle.ssa_ir.specs.Edges.{block_named, edge_number}
-use Rattle.ssa_ir.specs.Evaluation.{Role, Computes, TakesParameter, Rests, NotBuilt, role}
-use Rattle.ssa_ir.specs.Inputs.{Inputs}
-use Rattle.ssa_ir.specs.Run.{Form, State, with_word, computed, kept, parameter_word, entered, control_word, is_set, run_role, run_values, arrives, goes_to, leaves, run_control, run_block, to_counted, turns, begun, run_from, run}
-use Rattle.ssa_ir.specs.Showing.{ends}
+use Rattle.ssa_ir.specs.Inputs.{Inputs, Answer, parameter_word, symbol_word}
+use Rattle.ssa_ir.specs.Phis.{entered}
+use Rattle.ssa_ir.specs.declared.role.Role.{Role}
+use Rattle.ssa_ir.specs.declared.role.Role.TheVariants.{Computes, TakesParameter, TakesAddress, Loads, Stores, ChecksNil, Calls, Rests, NotBuilt}
+use Rattle.ssa_ir.specs.Roles.{role}
+use Rattle.ssa_ir.specs.Run.{Form, State, with_word, computed, pointer, loaded_word, stored_memory, shown_of, with_answer, takes_answer, control_word, is_set, run_role, run_values, arrives, goes_to, leaves, run_control, run_block, to_counted, turns, begun, run_from, run}
+use Rattle.ssa_ir.specs.Showing.{ends, call_then}
+use Rattle.ssa_ir.specs.Widths.{kept}
 
 -- where the first ended within its bound, the second is the same
 abbrev pub Stays : Shown → Shown → Type 0
@@ -29,19 +34,37 @@ pub stays_either : (c : Bool) (a b a' b' : Shown) → Stays a a' → Stays b b' 
 stays_either true a b a' b' p q = p
 stays_either false a b a' b' p q = q
 
-role_stays : (form : Form) (inputs : Inputs) (v : Value) (r : Role) (s : State) (go more : State → Shown)
-    → ((t : State) → Stays (go t) (more t)) → Stays (run_role form inputs v r s go) (run_role form inputs v r s more)
-role_stays form inputs v Computes s go more h = h (with_word s v.id.0 (computed v s.words))
-role_stays form inputs v TakesParameter s go more h = h (with_word s v.id.0 (kept form.whole v.ty (parameter_word inputs v.aux)))
-role_stays form inputs v Rests s go more h = h s
-role_stays form inputs v NotBuilt s go more h = λ _. refl
+-- the same call before both
+pub call_stays : (c : CallShown) (a b : Shown) → Stays a b → Stays (call_then c a) (call_then c b)
+call_stays c a b p going = ap (call_then c) (p going)
 
-values_stay : (form : Form) (inputs : Inputs) (values : List Value) (s : State) (go more : State → Shown)
-    → ((t : State) → Stays (go t) (more t)) → Stays (run_values form inputs values s go) (run_values form inputs values s more)
-values_stay form inputs [] s go more h = h s
-values_stay form inputs (v ∷ values) s go more h =
-    role_stays form inputs v (role v.op) s (λ t. run_values form inputs values t go) (λ t. run_values form inputs values t more)
-    (λ t. values_stay form inputs values t go more h)
+answer_stays : (form : Form) (block : List Value) (v : Value) (s : State) (answers : List Answer) (go more : State → Shown)
+    → ((t : State) → Stays (go t) (more t)) → Stays (takes_answer form block v s answers go) (takes_answer form block v s answers more)
+answer_stays form block v s [] go more h = λ _. refl
+answer_stays form block v s (a ∷ answers) go more h = h (with_answer form block v s a answers)
+
+role_stays : (form : Form) (inputs : Inputs) (block : List Value) (v : Value) (r : Role) (s : State) (go more : State → Shown)
+    → ((t : State) → Stays (go t) (more t)) → Stays (run_role form inputs block v r s go) (run_role form inputs block v r s more)
+role_stays form inputs block v Computes s go more h = h (with_word s v.id.0 (computed v s.words))
+role_stays form inputs block v TakesParameter s go more h =
+    h (with_word s v.id.0 (kept form.whole v.ty (parameter_word inputs v.aux)))
+role_stays form inputs block v TakesAddress s go more h = h (with_word s v.id.0 (symbol_word inputs (unwrap_or v.sym [])))
+role_stays form inputs block v Loads s go more h = h (with_word s v.id.0 (loaded_word v s))
+role_stays form inputs block v Stores s go more h = h (record s { memory = stored_memory v s })
+role_stays form inputs block v ChecksNil s go more h =
+    stays_either (eqb (pointer v s.words) 0) _ _ _ _ (λ _. refl) (h (with_word s v.id.0 (pointer v s.words)))
+role_stays form inputs block v Calls s go more h =
+    call_stays (shown_of form v s) (takes_answer form block v s s.answers go) (takes_answer form block v s s.answers more)
+    (answer_stays form block v s s.answers go more h)
+role_stays form inputs block v Rests s go more h = h s
+role_stays form inputs block v NotBuilt s go more h = λ _. refl
+
+values_stay : (form : Form) (inputs : Inputs) (block values : List Value) (s : State) (go more : State → Shown)
+    → ((t : State) → Stays (go t) (more t)) → Stays (run_values form inputs block values s go) (run_values form inputs block values s more)
+values_stay form inputs block [] s go more h = h s
+values_stay form inputs block (v ∷ values) s go more h =
+    role_stays form inputs block v (role v.op) s (λ t. run_values form inputs block values t go)
+    (λ t. run_values form inputs block values t more) (λ t. values_stay form inputs block values t go more h)
 
 arrives_stays : (go more : Onward) (b : Block) (j : ℕ) (s : State) (t : Option Block)
     → StaysOnward go more → Stays (arrives go b j s t) (arrives more b j s t)
@@ -69,8 +92,8 @@ control_stays form f go more b Bit s h = leaves_stays f go more b (cond (is_set 
 block_stays : (form : Form) (inputs : Inputs) (f : Func) (go more : Onward) → StaysOnward go more
     → StaysOnward (run_block form inputs f go) (run_block form inputs f more)
 block_stays form inputs f go more h b edge s =
-    values_stay form inputs (form.order b) (record s { words = entered (form.values b) edge s.words }) (run_control form f go b b.kind)
-    (run_control form f more b b.kind) (λ t. control_stays form f go more b b.kind t h)
+    values_stay form inputs (form.values b) (form.order b) (record s { words = entered (form.values b) edge s.words })
+    (run_control form f go b b.kind) (run_control form f more b b.kind) (λ t. control_stays form f go more b b.kind t h)
 
 counted_stays : (form : Form) (inputs : Inputs) (f : Func) (go more : Onward) (k : ℕ) → StaysOnward go more
     → StaysOnward (to_counted form inputs f go k) (to_counted form inputs f more k)

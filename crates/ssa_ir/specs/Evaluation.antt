@@ -131,23 +131,3 @@ eval Arm64MOVWstore aux a b c flags = 0
 eval Arm64MOVDstore aux a b c flags = 0
 eval Arm64LoweredNilCheck aux a b c flags = 0
 eval Arm64CALLstatic aux a b c flags = 0
-
--- what an op is to a run
-pub data Role : Type 0 where
-  -- it computes a word of its operands
-  Computes : Role
-  -- it takes a parameter
-  TakesParameter : Role
-  -- it names a memory or results, and does nothing
-  Rests : Role
-  -- its row isn't built
-  NotBuilt : Role
-
-abbrev pub role : Op → Role
-role InitMem = Rests
-role Arg = TakesParameter
-role (Const w) = Computes
-role (Add w) = Computes
-role MakeResult = Rests
-role Arm64ADD = Computes
-role _ = NotBuilt

@@ -1,5 +1,5 @@
 -- What a run is given.
-use Rattle.std.specs.Prelude.{ℕ, List, [], ◌∷◌, map, slice_index_or, if◌then◌else◌, nat_eq}
+use Rattle.std.specs.Prelude.{ℕ, ℤ, pos, negsuc, List, [], ◌∷◌, map, slice_index_or, if◌then◌else◌, nat_eq}
 use Rattle.std.specs.FinMap as finite
 use Rattle.std.specs.Cmp.Lexicographic.{pointwise}
 use Rattle.gossa_base.specs.Memory.{Memory, write_pieces}
@@ -29,6 +29,20 @@ pub record Inputs : Type 0 where
 -- the word of parameter i. Whatever comes from outside is a word: it is taken modulo 2 to the 64
 abbrev pub argument : Inputs → ℕ → ℕ
 argument inputs i = low 64 (slice_index_or inputs.arguments i 0)
+
+-- the parameter of this number; none has a number below 0
+abbrev pub parameter_word : Inputs → ℤ → ℕ
+parameter_word inputs (pos i) = argument inputs i
+parameter_word inputs (negsuc i) = 0
+
+-- the word of result i of an answer
+abbrev pub answer_word : Answer → ℕ → ℕ
+answer_word answer i = low 64 (slice_index_or answer.words i 0)
+
+-- the result of this number; none has a number below 0
+abbrev pub result_word : Answer → ℤ → ℕ
+result_word answer (pos i) = answer_word answer i
+result_word answer (negsuc i) = 0
 
 -- the address of a symbol
 abbrev pub symbol_word : Inputs → List ℕ → ℕ

@@ -1,7 +1,10 @@
+pub mod Access
 pub mod AllOps
 pub mod ArgumentPlaces
 pub mod Arithmetic
 pub mod BoundsChecked
+pub mod BoundsCheckedRuns
+pub mod Calls
 pub mod Conditions
 pub mod Edges
 pub mod Evaluation
@@ -12,6 +15,8 @@ pub mod Lookups
 pub mod Names
 pub mod OpNames
 pub mod Ops
+pub mod Phis
+pub mod Roles
 pub mod Run
 pub mod RunLaws
 pub mod Showing

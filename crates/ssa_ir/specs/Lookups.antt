@@ -38,9 +38,13 @@ values_of f = flat_map (λ b. b.values) f.blocks
 abbrev pub is_numbered : ValueId → Value → Bool
 is_numbered id v = v.id.0 == id.0
 
+-- the value of a number among these
+abbrev pub value_named : List Value → ValueId → Option Value
+value_named values id = find (is_numbered id) values
+
 -- the value of a number
 abbrev pub value_of : Func → ValueId → Option Value
-value_of f id = find (is_numbered id) (values_of f)
+value_of f id = value_named (values_of f) id
 
 -- the block of a number
 abbrev pub block_of : Func → BlockId → Option Block

@@ -1,26 +1,33 @@
 -- The run of an SSA function. A turn takes a counted block: its phis at once, its values in order, its control. Blocks on
 -- split edges take no turn. A run that would begin one turn more than its bound goes on.
-use Rattle.std.specs.Prelude.{ℕ, zero, suc, ℤ, pos, negsuc, ◌-◌, ◌==◌, Bool, true, false, if◌then◌else◌, List, [], ◌∷◌, length, map, take, find, slice_get, Option, None, Some}
+use Rattle.std.specs.Prelude.{ℕ, zero, suc, ◌==◌, Bool, false, if◌then◌else◌, List, [], ◌∷◌, length, slice_get, unwrap_or, Option, None, Some}
 use Rattle.gossa_base.specs.declared.ids.ValueId.{ValueId}
 use Rattle.gossa_base.specs.declared.ids.BlockId.{BlockId}
-use Rattle.gossa_base.specs.Memory.{Memory, changed}
+use Rattle.gossa_base.specs.Memory.{Memory, write_bytes, write_pieces, changed}
 use Rattle.gossa_base.specs.Words.{low}
 use Rattle.ssa_ir.specs.declared.op.Op.{Op}
 use Rattle.ssa_ir.specs.declared.types.Sig.{Sig}
-use Rattle.ssa_ir.specs.declared.types.Ty.{Ty}
 use Rattle.ssa_ir.specs.declared.func.Value.{Value}
 use Rattle.ssa_ir.specs.declared.func.Kind.{Kind}
 use Rattle.ssa_ir.specs.declared.func.Kind.TheVariants.{Plain, If, Ret, Exit, Cond, Bit}
 use Rattle.ssa_ir.specs.declared.func.Block.{Block}
 use Rattle.ssa_ir.specs.declared.func.Func.{Func}
-use Rattle.ssa_ir.specs.declared.case.End.TheVariants.{Returned, Exited, Going, Stuck}
+use Rattle.ssa_ir.specs.declared.case.CallShown.{CallShown}
+use Rattle.ssa_ir.specs.declared.case.End.TheVariants.{Returned, Trapped, Exited, NoReply, Going, Stuck}
 use Rattle.ssa_ir.specs.declared.case.Shown.{Shown}
+use Rattle.ssa_ir.specs.Access.{address, loaded, stored}
+use Rattle.ssa_ir.specs.Calls.{words_before_memory, shown_call, answered}
 use Rattle.ssa_ir.specs.Edges.{block_named, edge_number}
-use Rattle.ssa_ir.specs.Evaluation.{eval, Role, Computes, TakesParameter, Rests, NotBuilt, role}
+use Rattle.ssa_ir.specs.Evaluation.{eval}
 use Rattle.ssa_ir.specs.FirstOrder.{first_order}
-use Rattle.ssa_ir.specs.Inputs.{Inputs, Answer, argument}
-use Rattle.ssa_ir.specs.Showing.{ends, words_at}
-use Rattle.ssa_ir.specs.Widths.{type_bits}
+use Rattle.ssa_ir.specs.Inputs.{Inputs, Answer, parameter_word, symbol_word}
+use Rattle.ssa_ir.specs.Lookups.{value_named}
+use Rattle.ssa_ir.specs.Phis.{entered}
+use Rattle.ssa_ir.specs.declared.role.Role.{Role}
+use Rattle.ssa_ir.specs.declared.role.Role.TheVariants.{Computes, TakesParameter, TakesAddress, Loads, Stores, ChecksNil, Calls, Rests, NotBuilt}
+use Rattle.ssa_ir.specs.Roles.{role}
+use Rattle.ssa_ir.specs.Showing.{ends, call_then, words_at}
+use Rattle.ssa_ir.specs.Widths.{kept}
 
 -- the signatures of callees, by name
 abbrev pub Callees : Type 0
@@ -39,12 +46,11 @@ abbrev pub generic : Callees → Form
 generic callees = record { callees = callees; whole = false; values = λ b. b.values; order = λ b. first_order b.values }
 
 -- what a run has at one moment: the word of each value by its number, the memory, the memory from which changes are
--- counted, the result words of the last call, and the answers that are left
+-- counted, and the answers that are left
 pub record State : Type 0 where
   pub words : ℕ → ℕ
   pub memory : Memory
   pub since : Memory
-  pub reply : List ℕ
   pub answers : List Answer
 
 -- a table of words with another word at one number
@@ -69,49 +75,60 @@ abbrev pub computed : Value → (ℕ → ℕ) → ℕ
 computed v words =
     eval v.op v.aux (operand words v.args 0) (operand words v.args 1) (operand words v.args 2) (flags_word v.op words v.args)
 
--- a word that comes from outside, as a function of this form keeps it
-abbrev pub kept : Bool → Ty → ℕ → ℕ
-kept true ty w = w
-kept false ty w = low (type_bits ty) w
+-- the word of a value's first argument: the pointer of what loads, stores or checks
+abbrev pub pointer : Value → (ℕ → ℕ) → ℕ
+pointer v words = operand words v.args 0
 
--- the parameter of this number; none has a number below 0
-abbrev pub parameter_word : Inputs → ℤ → ℕ
-parameter_word inputs (pos i) = argument inputs i
-parameter_word inputs (negsuc i) = 0
+-- a load's word, and the memory that a store leaves
+abbrev pub loaded_word : Value → State → ℕ
+loaded_word v s = loaded v.op v.ty s.memory (address v.aux (pointer v s.words))
 
--- a value of this role, and then the rest of the run
-abbrev pub run_role : Form → Inputs → Value → Role → State → (State → Shown) → Shown
-run_role form inputs v Computes s go = go (with_word s v.id.0 (computed v s.words))
-run_role form inputs v TakesParameter s go = go (with_word s v.id.0 (kept form.whole v.ty (parameter_word inputs v.aux)))
-run_role form inputs v Rests s go = go s
-run_role form inputs v NotBuilt s go = ends Stuck
+abbrev pub stored_memory : Value → State → Memory
+stored_memory v s = write_bytes s.memory (address v.aux (pointer v s.words)) (stored v.op v.elem (operand s.words v.args 1))
 
--- values in order, and then the rest of the run
-abbrev pub run_values : Form → Inputs → List Value → State → (State → Shown) → Shown
-run_values form inputs [] s go = go s
-run_values form inputs (v ∷ values) s go = run_role form inputs v (role v.op) s (λ t. run_values form inputs values t go)
+-- what a call shows
+abbrev pub shown_of : Form → Value → State → CallShown
+shown_of form v s =
+    let name = unwrap_or v.sym [] in
+    shown_call name (form.callees name) (words_before_memory s.words v.args) s.since s.memory
 
--- the value of a number
-abbrev pub value_named : List Value → ValueId → Option Value
-value_named values id = find (λ v. v.id.0 == id.0) values
+-- behind an answer: the call's selects have their words, what it wrote is written, and changes are counted from then on
+abbrev pub with_answer : Form → (block : List Value) → Value → State → Answer → List Answer → State
+with_answer form block v s a answers = record {
+  words = answered form.whole block v.id a s.words;
+  memory = write_pieces s.memory a.writes;
+  since = write_pieces s.memory a.writes;
+  answers = answers;
+}
 
--- the value whose word a value takes where its block is entered by edge k; no op that is built is a phi
-abbrev pub source_by_op : ℕ → ValueId → List ValueId → Op → ValueId
-source_by_op k id args _ = id
+-- a call takes the next answer, and then comes the rest of the run
+abbrev pub takes_answer : Form → (block : List Value) → Value → State → List Answer → (State → Shown) → Shown
+takes_answer form block v s [] go = ends NoReply
+takes_answer form block v s (a ∷ answers) go = go (with_answer form block v s a answers)
 
-abbrev pub source_of : ℕ → ℕ → Option Value → ℕ
-source_of k n None = n
-source_of k n (Some v) = (source_by_op k v.id v.args v.op).0
+-- a value of this role, among all values of its block, and then the rest of the run
+abbrev pub run_role : Form → Inputs → (block : List Value) → Value → Role → State → (State → Shown) → Shown
+run_role form inputs block v Computes s go = go (with_word s v.id.0 (computed v s.words))
+run_role form inputs block v TakesParameter s go = go (with_word s v.id.0 (kept form.whole v.ty (parameter_word inputs v.aux)))
+run_role form inputs block v TakesAddress s go = go (with_word s v.id.0 (symbol_word inputs (unwrap_or v.sym [])))
+run_role form inputs block v Loads s go = go (with_word s v.id.0 (loaded_word v s))
+run_role form inputs block v Stores s go = go (record s { memory = stored_memory v s })
+run_role form inputs block v ChecksNil s go =
+    if pointer v s.words == 0 then ends (Trapped (changed s.since s.memory)) else go (with_word s v.id.0 (pointer v s.words))
+run_role form inputs block v Calls s go = call_then (shown_of form v s) (takes_answer form block v s s.answers go)
+run_role form inputs block v Rests s go = go s
+run_role form inputs block v NotBuilt s go = ends Stuck
 
--- entering a block: all its phis at once take their words from the words before
-abbrev pub entered : List Value → Option ℕ → (ℕ → ℕ) → ℕ → ℕ
-entered values None words n = words n
-entered values (Some k) words n = words (source_of k n (value_named values (record { 0 = n })))
+-- values in order, among all values of their block, and then the rest of the run
+abbrev pub run_values : Form → Inputs → (block : List Value) → List Value → State → (State → Shown) → Shown
+run_values form inputs block [] s go = go s
+run_values form inputs block (v ∷ values) s go =
+    run_role form inputs block v (role v.op) s (λ t. run_values form inputs block values t go)
 
 -- the words of the values that a MakeResult names before its memory
 abbrev pub result_words : (ℕ → ℕ) → Option Value → List ℕ
 result_words words None = []
-result_words words (Some v) = map (λ id. words id.0) (take (length v.args - 1) v.args)
+result_words words (Some v) = words_before_memory words v.args
 
 abbrev pub controlling : List Value → Option ValueId → Option Value
 controlling values None = None
@@ -150,7 +167,8 @@ run_control form f go b Bit s = leaves f go b (if is_set (control_word s.words b
 -- one block, entered by an edge or from outside, and then the rest of the run
 abbrev pub run_block : Form → Inputs → Func → (Block → Option ℕ → State → Shown) → Block → Option ℕ → State → Shown
 run_block form inputs f go b edge s =
-    run_values form inputs (form.order b) (record s { words = entered (form.values b) edge s.words }) (run_control form f go b b.kind)
+    run_values form inputs (form.values b) (form.order b) (record s { words = entered (form.values b) edge s.words })
+    (run_control form f go b b.kind)
 
 -- through at most k blocks on split edges to a counted block, and then the rest of the run
 abbrev pub to_counted : Form → Inputs → Func → (Block → Option ℕ → State → Shown) → ℕ → Block → Option ℕ → State → Shown
@@ -166,7 +184,7 @@ turns form inputs f (suc n) b edge s =
 
 -- before the first turn: no value has a word
 abbrev pub begun : Inputs → State
-begun inputs = record { words = λ n. 0; memory = inputs.memory; since = inputs.memory; reply = []; answers = inputs.answers }
+begun inputs = record { words = λ n. 0; memory = inputs.memory; since = inputs.memory; answers = inputs.answers }
 
 abbrev pub run_from : Form → Inputs → Func → ℕ → List Block → Shown
 run_from form inputs f n [] = ends Stuck

@@ -1,5 +1,6 @@
--- The widths of types, in bits.
-use Rattle.std.specs.Prelude.{ℕ}
+-- The widths of types, in bits and in bytes, and words kept at them.
+use Rattle.std.specs.Prelude.{ℕ, ◌/◌, Bool as Truth, true, false}
+use Rattle.gossa_base.specs.Words.{low}
 use Rattle.ssa_ir.specs.declared.op.Width.{Width}
 use Rattle.ssa_ir.specs.declared.op.Width.TheVariants.{W8, W16, W32, W64}
 use Rattle.ssa_ir.specs.declared.op.WidthPair.{WidthPair}
@@ -53,3 +54,17 @@ type_bits Mem = 0
 type_bits (Tuple types) = 0
 type_bits Flags = 0
 type_bits Void = 0
+
+-- a scalar's bytes in memory, and those of a value of one word
+abbrev pub scalar_bytes : Scalar → ℕ
+scalar_bytes t = scalar_bits t / 8
+
+abbrev pub type_bytes : Ty → ℕ
+type_bytes ty = type_bits ty / 8
+
+-- a word that comes from outside, as a function keeps it: whole, or at the width of its type. A memory, a tuple, flags and
+-- nothing are no words, and keep 0
+abbrev pub kept : (whole : Truth) → Ty → ℕ → ℕ
+kept true (One t) w = w
+kept false (One t) w = low (scalar_bits t) w
+kept whole _ w = 0

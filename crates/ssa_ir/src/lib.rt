@@ -13,8 +13,10 @@
 //! [`op_row`] is the table of ops: how many arguments each takes, what its brackets or braces hold, and whether it reads
 //! or makes a memory. `specs/WellFormed.antt` says what a well-formed unit is.
 //!
-//! Known limits: what each pure op computes is defined, but a run takes only constants, sums, parameters and results: one that
-//! comes to another op ends stuck.
+//! What a function shows in a case is defined in `specs/Run.antt`, and what each op is to a run in `specs/Roles.antt`
+//! ([`role_of`]).
+//!
+//! Known limits: a run takes every generic op, and of the machine's ops only the sum: one that comes to another ends stuck.
 #![tactic(auto)]
 
 pub mod abi;
@@ -25,6 +27,7 @@ pub mod laws;
 pub mod lookups;
 pub mod op;
 pub mod op_names;
+pub mod role;
 pub mod texts;
 pub mod types;
 
@@ -36,6 +39,7 @@ pub use case::{
 };
 pub use func::{Block, BlockIds, Blocks, Func, Funcs, Kind, SsaUnit, Value, Values};
 pub use op::{Arity, AuxRule, CondCode, Op, OpRow, Width, WidthPair, op_row};
+pub use role::{Role, role_of};
 pub use texts::print_sigs;
 pub use types::{Scalar, Scalars, Sig, Sigs, Ty};
 

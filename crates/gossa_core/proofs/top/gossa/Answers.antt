@@ -1,6 +1,6 @@
 use Rattle.std.proofs.Common.{map}
 use Rattle.std.specs.String.{string_bytes}
-use Rattle.gossa_core.specs.Answer.{World}
+use Rattle.gossa_core.specs.Worlds.{World}
 use Rattle.gossa_core.proofs.CompleteLemmas.{complete}
 use Rattle.gossa_core.proofs.top.gossa.Goals as goal
 
@@ -15,9 +15,9 @@ returns-clause-complete g c =
       write_faults = sink.faults c.args.sink.now;
     } in
     let after : World = record {
-      left = source.left c.run-outcome.new.source;
-      read_faults = source.faults c.run-outcome.new.source;
-      held = sink.held c.run-outcome.new.sink;
-      write_faults = sink.faults c.run-outcome.new.sink;
+      left = source.left c.answer-outcome.new.source;
+      read_faults = source.faults c.answer-outcome.new.source;
+      held = sink.held c.answer-outcome.new.sink;
+      write_faults = sink.faults c.answer-outcome.new.sink;
     } in
-    complete (map string_bytes c.args.words.now) before after c.status.result c.run-outcome.result c.status.ensures c.run-outcome.ensures
+    complete (map string_bytes c.args.words.now) before after c.status.result c.answer-outcome.result c.status.ensures c.answer-outcome.ensures

@@ -1,0 +1,90 @@
+-- Why the program answers as it does.
+use Rattle.std.specs.Prelude.{◌≡◌, ℕ, List, Option, None, Some}
+use Rattle.std.specs.Io.KnownBytes.{Appends}
+use Rattle.gossa_base.specs.Faults.{Faulted}
+use Rattle.gossa_base.specs.Whole.{ReadsWhole, ReadsWithin, ReadsPast, AppendsPrefix}
+use Rattle.ssa_lines.specs.declared.refusal.TextRefusal.{TextRefusal}
+use Rattle.gossa_core.specs.declared.status.CheckFault.{CheckFault}
+use Rattle.gossa_core.specs.declared.status.Outcome.{Outcome}
+use Rattle.gossa_core.specs.declared.status.Outcome.TheVariants.{Done, NotBuilt, TooLong, Text, Check, Usage, ReadFault, WriteFault, NoMemory}
+use Rattle.gossa_core.specs.declared.words.Command.{Command}
+use Rattle.gossa_core.specs.Outputs.{input_limit, Makes}
+use Rattle.gossa_core.specs.Unmade.{FailsCheck, LeavesUnbuilt, Misspells}
+use Rattle.gossa_core.specs.Worlds.{World, NothingRead, NothingWritten}
+
+-- the whole input was read, and the command's output of it was written
+pub record Finishes (c : Command) (before after : World) : Type 0 where
+  pub text : List ℕ
+  pub read : ReadsWhole input_limit before.left after.left text
+  pub output : List ℕ
+  pub made : Makes c text output
+  pub written : Appends before.held after.held output
+
+-- the whole input was read, and isn't compiled yet
+pub record IsNotBuilt (c : Command) (before after : World) : Type 0 where
+  pub text : List ℕ
+  pub read : ReadsWhole input_limit before.left after.left text
+  pub unbuilt : LeavesUnbuilt c text
+  pub unwritten : NothingWritten before after
+
+-- the whole input was read, and this is its first fault
+pub record IsRefusedText (refusal : TextRefusal) (before after : World) : Type 0 where
+  pub text : List ℕ
+  pub read : ReadsWhole input_limit before.left after.left text
+  pub refused : Misspells text refusal
+  pub unwritten : NothingWritten before after
+
+-- the whole input was read, and this is the first fault of its unit
+pub record IsRefusedUnit (fault : CheckFault) (before after : World) : Type 0 where
+  pub text : List ℕ
+  pub read : ReadsWhole input_limit before.left after.left text
+  pub refused : FailsCheck text fault
+  pub unwritten : NothingWritten before after
+
+-- byte `input_limit + 1` was read
+pub record IsTooLong (before after : World) : Type 0 where
+  pub read : ReadsPast input_limit before.left after.left
+  pub unwritten : NothingWritten before after
+
+-- the source met a fault
+pub record MeetsReadFault (before after : World) : Type 0 where
+  pub faulted : Faulted before.read_faults after.read_faults
+  pub read : ReadsWithin input_limit before.left after.left
+  pub unwritten : NothingWritten before after
+
+-- the sink met a fault, when a prefix of the output was written
+pub record MeetsWriteFault (c : Command) (before after : World) : Type 0 where
+  pub text : List ℕ
+  pub read : ReadsWhole input_limit before.left after.left text
+  pub output : List ℕ
+  pub made : Makes c text output
+  pub faulted : Faulted before.write_faults after.write_faults
+  pub written : AppendsPrefix before.held after.held output
+
+-- there was no memory for the input or for what is made of it
+pub record LacksMemory (before after : World) : Type 0 where
+  pub read : ReadsWithin input_limit before.left after.left
+  pub unwritten : NothingWritten before after
+
+-- why a command answers as it does
+abbrev pub CommandCause : Command → World → World → Outcome → Type 0
+CommandCause c before after Done = Finishes c before after
+CommandCause c before after NotBuilt = IsNotBuilt c before after
+CommandCause c before after TooLong = IsTooLong before after
+CommandCause c before after (Text refusal) = IsRefusedText refusal before after
+CommandCause c before after (Check fault) = IsRefusedUnit fault before after
+CommandCause c before after Usage = ⊥
+CommandCause c before after ReadFault = MeetsReadFault before after
+CommandCause c before after WriteFault = MeetsWriteFault c before after
+CommandCause c before after NoMemory = LacksMemory before after
+
+-- the words are no command: nothing is read and nothing is written
+pub record IsUsageOnly (before after : World) (outcome : Outcome) : Type 0 where
+  pub usage : outcome ≡ Usage
+  pub unread : NothingRead before after
+  pub unwritten : NothingWritten before after
+
+-- why the program answers as it does, by what its words are
+abbrev pub Cause : Option Command → World → World → Outcome → Type 0
+Cause None before after outcome = IsUsageOnly before after outcome
+Cause (Some c) before after outcome = CommandCause c before after outcome

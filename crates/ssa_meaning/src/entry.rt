@@ -1,0 +1,59 @@
+// The run of a case.
+
+ghost use Rattle.std.specs.Prelude.{◌≡◌, ◌<◌, length, IfOk};
+ghost use Rattle.ssa_ir.specs.WellFormed.{WellFormed};
+ghost use Rattle.ssa_meaning.specs.CaseRun.{case_shown};
+
+use crate::memory::RunMemory;
+use crate::ready::ReadyFunc;
+use crate::running::Running;
+use crate::step::Given;
+use crate::symbols::SymbolTable;
+use crate::words::WordTable;
+use gossa_base::{NoMemory, Sequence};
+use ssa_check::Checked;
+use ssa_check::signatures::SignatureTable;
+use ssa_ir::{Case, Shown, SsaUnit};
+use std::alloc::Global;
+
+/// What the function of a case shows: its calls, each with its arguments and the memory that had changed, and then how it
+/// ends. The case's bound is the most turns that it takes.
+///
+/// # Errors
+///
+/// Want of memory.
+pub fn run_case(alloc: Global, unit: &Checked, case: &Case) -> Result<Shown, NoMemory>
+    requires { case.now.func < length unit.now.funcs }
+    ensures { IfOk result (λ shown. shown ≡ case_shown unit.now case.now) }
+{
+    run_unit_case(alloc, unit.unit(), case)
+}
+
+// The same of a unit that is well formed, which is all that a run needs.
+fn run_unit_case(alloc: Global, unit: &SsaUnit, case: &Case) -> Result<Shown, NoMemory>
+    requires well_formed { WellFormed unit.now }
+    requires func { case.now.func < length unit.now.funcs }
+    ensures { IfOk result (λ shown. shown ≡ case_shown unit.now case.now) }
+{
+    let func = &unit.funcs.as_slice()[case.func as usize];
+    let signatures = SignatureTable::new(alloc, unit)?;
+    let symbols = SymbolTable::new(alloc, case.syms.as_slice())?;
+    let ready = ReadyFunc::new(alloc, func)?;
+    let mut running = Running {
+        words: WordTable::of_func(alloc, func)?,
+        memory: RunMemory::of_pieces(alloc, case.mem.as_slice())?,
+        calls: Sequence::new(alloc),
+        taken: 0,
+    };
+    let given = Given {
+        unit,
+        signatures: &signatures,
+        case,
+        symbols: &symbols,
+    };
+    let end = running.run_turns(alloc, &given, func, &ready)?;
+    Ok(Shown {
+        calls: running.calls,
+        end,
+    })
+}
