@@ -2,6 +2,7 @@
 use Rattle.std.specs.Prelude.{◌≡◌, ℕ, ◌+◌, ◌-◌, ◌^◌, ◌↔◌, Bool, false, ◌==◌, ◌||◌, nat_lt, nat_le, if◌then◌else◌, IsTrue, List, ◌++◌, length, take, drop, min, Option, None, Some, Result, Ok, Err, IsErr, IfOk}
 use Rattle.std.specs.List.{list_any}
 use Rattle.gossa_base.specs.declared.outside.Failed.{Failed}
+use Rattle.gossa_base.specs.Faults.{fault_after}
 
 -- the number of the call after one of this number; no call after the last number of 64 bits has one
 abbrev pub number_after : Option ℕ → Option ℕ
@@ -12,10 +13,6 @@ number_after (Some n) = if nat_lt n (2 ^ 64 - 1) then Some (n + 1) else None
 abbrev pub is_listed : List ℕ → Option ℕ → Bool
 is_listed calls None = false
 is_listed calls (Some n) = list_any (λ k. k == n) calls
-
--- one more fault; the count stays at its last number
-abbrev pub fault_after : ℕ → ℕ
-fault_after n = min (n + 1) (2 ^ 64 - 1)
 
 -- a source over memory: the bytes left, the most bytes that one call gives, the number of the next call,
 -- the calls that fail, and the faults so far

@@ -1,6 +1,6 @@
 // A source over memory.
 
-ghost use Rattle.std.specs.Prelude.{◌≡◌, ◌<◌, ◌≤◌, length, Some, IfOk, OnErr};
+ghost use Rattle.std.specs.Prelude.{◌≡◌, ◌<◌, ◌≤◌, length, Some, IfOk, OnOk, OnErr};
 ghost use Rattle.std.specs.Io.{ReadsAtMost};
 ghost use Rattle.std.specs.Io.KnownBytes.{ReadConsumes};
 ghost use Rattle.gossa_base.specs.Faults.{Faulted};
@@ -82,6 +82,7 @@ impl Source for MemSource {
         ensures bound { ReadsAtMost result buf.new }
         ensures bytes { ReadConsumes (Some self.old.left) (Some self.new.left) result buf.new }
         ensures failed { OnErr result (Faulted self.old.faults self.new.faults) }
+        ensures calm { OnOk result (self.new.faults ≡ self.old.faults) }
         ensures count { self.old.faults ≤ self.new.faults }
         ensures exact { ReadsMemory self.old self.new buf.new result }
     {

@@ -1,6 +1,6 @@
 // The outside, as two traits: where bytes come from, and where they go.
 
-ghost use Rattle.std.specs.Prelude.{◌≡◌, ℕ, ◌<◌, ◌≤◌, List, Option, length, IfOk, OnErr};
+ghost use Rattle.std.specs.Prelude.{◌≡◌, ℕ, ◌<◌, ◌≤◌, List, Option, length, IfOk, OnOk, OnErr};
 ghost use Rattle.std.specs.Io.{ReadsAtMost};
 ghost use Rattle.std.specs.Io.KnownBytes.{ReadConsumes, WriteAppends};
 ghost use Rattle.gossa_base.specs.Faults.{Faulted};
@@ -18,12 +18,14 @@ pub trait Source {
 
     /// Moves some of the bytes left to the front of `buf`, which isn't empty, and answers how many: none only at the end
     /// of input.
-    /// `Failed` comes only where the count of faults rose, or stands at its last number, and then no byte was taken.
+    /// `Failed` comes only where the count of faults rose, or stands at its last number, and then no byte was taken. Where
+    /// it doesn't come, no fault was met: the count stays.
     fn read(&mut self, buf: &mut [u8]) -> Result<usize, Failed>
         requires { 0 < length buf.old }
         ensures bound { ReadsAtMost result buf.new }
         ensures bytes { ReadConsumes (left self.old) (left self.new) result buf.new }
         ensures failed { OnErr result (Faulted (faults self.old) (faults self.new)) }
+        ensures calm { OnOk result (faults self.new ≡ faults self.old) }
         ensures count { faults self.old ≤ faults self.new };
 }
 
@@ -36,12 +38,13 @@ pub trait Sink {
 
     /// Appends the first bytes of `piece`, which isn't empty, and answers how many, at least one.
     /// `Failed` comes only where the count of faults rose, or stands at its last number, and then nothing was
-    /// appended.
+    /// appended. Where it doesn't come, no fault was met: the count stays.
     fn write(&mut self, piece: &[u8]) -> Result<usize, Failed>
         requires { 0 < length piece.now }
         ensures some { IfOk result (λ n. 0 < n) }
         ensures bound { IfOk result (λ n. n ≤ length piece.now) }
         ensures bytes { WriteAppends (held self.old) (held self.new) result piece.now }
         ensures failed { OnErr result (Faulted (faults self.old) (faults self.new)) }
+        ensures calm { OnOk result (faults self.new ≡ faults self.old) }
         ensures count { faults self.old ≤ faults self.new };
 }

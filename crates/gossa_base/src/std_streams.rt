@@ -4,10 +4,42 @@
 ghost use Rattle.std.specs.Prelude.{◌≡◌, ◌<◌, ◌≤◌, length, IfOk, OnOk, OnErr};
 ghost use Rattle.std.specs.Io.{ReadsAtMost};
 ghost use Rattle.std.specs.Io.KnownBytes.{ReadConsumes, WriteAppends};
-ghost use Rattle.gossa_base.specs.Faults.{Faulted};
+ghost use Rattle.gossa_base.specs.Faults.{Faulted, faults_after};
+ghost use Rattle.gossa_base.specs.StdStreams.{read_answer, write_answer};
 
 use crate::outside::{Failed, Sink, Source};
+use std::io;
 use std::io::{Read, Write};
+
+// What a read answers, by what the reader gave: its count of bytes, whatever that is, and an error as a fault.
+fn read_answer(given: io::Result<usize>) -> Result<usize, Failed>
+    ensures { result ≡ read_answer given }
+{
+    match given {
+        Ok(n) => Ok(n),
+        Err(_) => Err(Failed),
+    }
+}
+
+// What a write answers, by what the writer gave: its count of bytes, and as a fault an error, or that it took no byte.
+fn write_answer(given: io::Result<usize>) -> Result<usize, Failed>
+    ensures { result ≡ write_answer given }
+{
+    match given {
+        Ok(n) if n > 0 => Ok(n),
+        _ => Err(Failed),
+    }
+}
+
+// The count of faults behind a call that answered this.
+fn faults_after(faults: u64, answer: &Result<usize, Failed>) -> u64
+    ensures { result ≡ faults_after faults answer.now }
+{
+    match answer {
+        Ok(_) => faults,
+        Err(Failed) => faults.saturating_add(1),
+    }
+}
 
 /// Standard input, or any other reader. It tells the bytes that its reader tells, of which a real stream tells
 /// none, and counts one fault at each error of the system; the count stays at its last number.
@@ -39,14 +71,11 @@ impl<R: Read> Source for StdSource<R> {
         ensures failed { OnErr result (Faulted self.old.faults self.new.faults) }
         ensures count { self.old.faults ≤ self.new.faults }
         ensures calm { OnOk result (self.new.faults ≡ self.old.faults) }
+        ensures counted { self.new.faults ≡ faults_after self.old.faults result }
     {
-        match self.reader.read(buf) {
-            Ok(n) => Ok(n),
-            Err(_) => {
-                self.faults = self.faults.saturating_add(1);
-                Err(Failed)
-            }
-        }
+        let answer = read_answer(self.reader.read(buf));
+        self.faults = faults_after(self.faults, &answer);
+        answer
     }
 }
 
@@ -81,13 +110,10 @@ impl<W: Write> Sink for StdSink<W> {
         ensures failed { OnErr result (Faulted self.old.faults self.new.faults) }
         ensures count { self.old.faults ≤ self.new.faults }
         ensures calm { OnOk result (self.new.faults ≡ self.old.faults) }
+        ensures counted { self.new.faults ≡ faults_after self.old.faults result }
     {
-        match self.writer.write(piece) {
-            Ok(n) if n > 0 => Ok(n),
-            _ => {
-                self.faults = self.faults.saturating_add(1);
-                Err(Failed)
-            }
-        }
+        let answer = write_answer(self.writer.write(piece));
+        self.faults = faults_after(self.faults, &answer);
+        answer
     }
 }

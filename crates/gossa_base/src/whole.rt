@@ -1,6 +1,6 @@
 // Whole texts, read and written piece by piece.
 
-ghost use Rattle.std.specs.Prelude.{◌≡◌, ◌≤◌, OnOk, OnErr, IfOk};
+ghost use Rattle.std.specs.Prelude.{◌≡◌, ◌≢◌, ◌≤◌, OnOk, OnErr, IfOk};
 ghost use Rattle.std.specs.Io.KnownBytes.{Appends};
 ghost use Rattle.gossa_base.specs.Faults.{Faulted};
 ghost use Rattle.gossa_base.specs.Whole.{ReadsWhole, ReadsWithin, ReadsPast, AppendsPrefix};
@@ -24,7 +24,8 @@ pub enum ReadRefusal {
 // How many bytes one read may give.
 const CHUNK: usize = 4096;
 
-/// Reads all that the source has left, up to its end: at most `limit` bytes.
+/// Reads all that the source has left, up to its end: at most `limit` bytes. A fault that the source meets ends it, so that
+/// with any other answer the count of faults stayed.
 pub fn read_all<S: Source>(
     alloc: Global,
     source: &mut S,
@@ -35,6 +36,7 @@ pub fn read_all<S: Source>(
     ensures too_long { result ≡ Err ReadRefusal.TooLong → ReadsPast limit (S.left source.old) (S.left source.new) }
     ensures within { result ≡ Err ReadRefusal.ReadFault → ReadsWithin limit (S.left source.old) (S.left source.new) }
     ensures memory { result ≡ Err ReadRefusal.NoMemory → ReadsWithin limit (S.left source.old) (S.left source.new) }
+    ensures calm { result ≢ Err ReadRefusal.ReadFault → S.faults source.new ≡ S.faults source.old }
     ensures count { S.faults source.old ≤ S.faults source.new }
 {
     let mut held = Vec::new(alloc);
@@ -58,11 +60,12 @@ pub fn read_all<S: Source>(
     }
 }
 
-/// Writes all of `text`. Where it fails, a prefix of the text was written.
+/// Writes all of `text`. Where it fails, a prefix of the text was written; where it doesn't, the count of faults stayed.
 pub fn write_all<K: Sink>(sink: &mut K, text: &[u8]) -> Result<(), Failed>
     ensures ok { OnOk result (Appends (K.held sink.old) (K.held sink.new) text.now) }
     ensures fault { OnErr result (Faulted (K.faults sink.old) (K.faults sink.new)) }
     ensures prefix { OnErr result (AppendsPrefix (K.held sink.old) (K.held sink.new) text.now) }
+    ensures calm { OnOk result (K.faults sink.new ≡ K.faults sink.old) }
     ensures count { K.faults sink.old ≤ K.faults sink.new }
 {
     let mut written = 0;

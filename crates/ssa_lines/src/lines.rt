@@ -38,13 +38,6 @@ impl<'a> TextLines<'a> {
         self.rest.is_empty()
     }
 
-    /// The text that is left.
-    pub fn rest(&self) -> &'a [u8]
-        ensures { lines_of result.now ≡ self.now }
-    {
-        self.rest
-    }
-
     /// The next line, without its LF, which is then no longer left; none exactly where none is left.
     pub fn next(&mut self) -> Option<&'a [u8]>
         ensures { TakesNext self.old self.new (option_copied result) }

@@ -1,4 +1,4 @@
-use Rattle.std.proofs.Common.{arith}
+use Rattle.std.proofs.Common.{arith, ◌∙◌}
 use Rattle.std.proofs.lemmas.Result.{err_from_is_err_and}
 use Rattle.gossa_base.proofs.WholeLemmas.{appended_more, prefix_kept}
 use Rattle.gossa_base.proofs.whole.write_all.Goals as goal
@@ -7,7 +7,7 @@ pub pieces-preserved : goal.pieces-preserved
 pieces-preserved g c = record {
   within = omega (arith, c.in_ok-written.ensures.bound);
   appended = appended_more _ _ _ _ _ _ c.pieces.invariant.appended c.in_ok-written.ensures.bytes;
-  count = omega arith;
+  calm = c.in_ok-written.ensures.calm ∙ c.pieces.invariant.calm;
 }
 
 pub returns-in_err-written-clause-prefix : goal.returns-in_err-written-clause-prefix

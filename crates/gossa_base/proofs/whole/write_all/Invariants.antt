@@ -1,13 +1,13 @@
-use Rattle.std.proofs.Common.{length, ◌-◌, ◌≤◌, take}
+use Rattle.std.proofs.Common.{◌≡◌, length, ◌-◌, ◌≤◌, take}
 use Rattle.std.specs.Io.KnownBytes.{Appends}
 use Rattle.gossa_base.proofs.whole.write_all.Given as goal
 
--- the bytes so far are written, and no count fell
+-- the bytes so far are written, and no fault was met
 abbrev pub invariant-pieces : goal.invariant-pieces
 invariant-pieces g l = record {
   within : l.written ≤ length l.text;
   appended : Appends (g.K.Sink.held l.fn.sink) (g.K.Sink.held l.sink) (take l.written l.text);
-  count : g.K.Sink.faults l.fn.sink ≤ g.K.Sink.faults l.sink;
+  calm : g.K.Sink.faults l.sink ≡ g.K.Sink.faults l.fn.sink;
 }
 
 abbrev pub decreases-pieces : goal.decreases-pieces
