@@ -1,3 +1,4 @@
 mod WholeLemmas
+pub mod PrefixLemmas
 pub mod MemoryLemmas
 pub mod WordLemmas

@@ -3,6 +3,7 @@ pub mod Whole
 pub mod MemStreams
 pub mod StdStreams
 pub mod Texts
+pub mod Prefixes
 pub mod Words
 pub mod Memory
 pub mod MemoryLaws

@@ -111,10 +111,16 @@ abbrev pub bits_text : List Bool → List ℕ
 bits_text [] = codes "-"
 bits_text (b ∷ bits) = flat_map bit_text (b ∷ bits)
 
+-- the line of map k
+abbrev pub map_line : (k : ℕ) → Map → List ℕ
+map_line k m =
+    codes "MAP "
+    ++ (decimal k ++ ((codes " args=" ++ bits_text m.args) ++ ((codes " locals=" ++ bits_text m.locals) ++ newline)))
+
 -- the maps, numbered from k
 abbrev pub maps_text : (k : ℕ) → List Map → List ℕ
 maps_text k [] = []
-maps_text k (m ∷ maps) = codes "MAP " ++ (decimal k ++ (codes " args=" ++ (bits_text m.args ++ (codes " locals=" ++ (bits_text m.locals ++ (newline ++ maps_text (k + 1) maps))))))
+maps_text k (m ∷ maps) = map_line k m ++ maps_text (k + 1) maps
 
 -- a number behind its name
 abbrev pub field_text : List ℕ → ℕ → List ℕ
@@ -130,9 +136,13 @@ frame_text l =
 abbrev pub head_text : Listing → List ℕ
 head_text l = codes "TEXT " ++ (sig_text l.code.sig ++ (frame_text l ++ (field_text (codes ", regs=") l.code.regs ++ newline)))
 
+-- a line of this code, with its end
+abbrev pub whole_line : Code → Line → List ℕ
+whole_line c line = line_text c.out c.syms line ++ newline
+
 -- the lines of code, each with its end
 abbrev pub lines_text : Code → List ℕ
-lines_text c = flat_map (λ line. line_text c.out c.syms line ++ newline) c.lines
+lines_text c = flat_map (whole_line c) c.lines
 
 -- a function's listing
 abbrev pub listing_text : Listing → List ℕ

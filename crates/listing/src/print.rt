@@ -1,10 +1,13 @@
 // The canonical text of listings.
 
-ghost use Rattle.std.specs.Prelude.{◌≡◌, ◌++◌, codes, OnOk, IfOk};
+#![tactic(auto, using(gossa_base::proofs::PrefixLemmas::prefixes))]
+
+ghost use Rattle.std.specs.Prelude.{◌≡◌, ◌++◌, codes, OnOk, IfOk, OnErr};
+ghost use Rattle.gossa_base.specs.Prefixes.{AddsPrefix};
 ghost use Rattle.gossa_base.specs.Texts.{led, value_text};
 ghost use Rattle.std.specs.List.{flat_map};
 ghost use Rattle.listing.specs.Frame.{frame_size, has_call, frame_offset};
-ghost use Rattle.listing.specs.Text.{reg_text, reg_or_none, sym_text, stack_text, place_text, note_text, cond_text, three_regs, op_text, held_text, line_text, bits_text, bit_text, maps_text, field_text, frame_text, head_text, lines_text, listing_text, listings_text};
+ghost use Rattle.listing.specs.Text.{reg_text, reg_or_none, sym_text, stack_text, place_text, note_text, cond_text, three_regs, op_text, held_text, bit_test_text, line_text, whole_line, bits_text, bit_text, map_line, maps_text, field_text, frame_text, head_text, lines_text, listing_text, listings_text};
 
 use crate::code::{Code, Listing, Listings, Map};
 use crate::line::{Line, Note, Operands, Place};
@@ -38,7 +41,8 @@ impl Print for Listing {
 
 // A function's first line.
 fn print_head(text: &mut Vec<u8>, listing: &Listing) -> Result<(), NoMemory>
-    ensures { OnOk result (text.new.items ≡ text.old.items ++ head_text listing.now) }
+    ensures ok { OnOk result (text.new.items ≡ text.old.items ++ head_text listing.now) }
+    ensures prefix { OnErr result (AddsPrefix text.old.items text.new.items (head_text listing.now)) }
 {
     put(text, b"TEXT ")?;
     listing.code.sig.print(text)?;
@@ -49,7 +53,8 @@ fn print_head(text: &mut Vec<u8>, listing: &Listing) -> Result<(), NoMemory>
 
 // The size of the frame, and its words by their kind.
 fn print_frame(text: &mut Vec<u8>, listing: &Listing) -> Result<(), NoMemory>
-    ensures { OnOk result (text.new.items ≡ text.old.items ++ frame_text listing.now) }
+    ensures ok { OnOk result (text.new.items ≡ text.old.items ++ frame_text listing.now) }
+    ensures prefix { OnErr result (AddsPrefix text.old.items text.new.items (frame_text listing.now)) }
 {
     print_field(text, b", frame=", listing.frame_size())?;
     print_field(text, b", out=", u64::from(listing.code.out))?;
@@ -59,7 +64,8 @@ fn print_frame(text: &mut Vec<u8>, listing: &Listing) -> Result<(), NoMemory>
 
 // These bytes, and then a number.
 fn print_field(text: &mut Vec<u8>, name: &[u8], number: u64) -> Result<(), NoMemory>
-    ensures { OnOk result (text.new.items ≡ text.old.items ++ field_text name.now number) }
+    ensures ok { OnOk result (text.new.items ≡ text.old.items ++ field_text name.now number) }
+    ensures prefix { OnErr result (AddsPrefix text.old.items text.new.items (field_text name.now number)) }
 {
     put(text, name)?;
     put_number(text, number)
@@ -67,27 +73,52 @@ fn print_field(text: &mut Vec<u8>, name: &[u8], number: u64) -> Result<(), NoMem
 
 // The lines of maps, numbered from 0.
 fn print_maps(text: &mut Vec<u8>, maps: &[Map]) -> Result<(), NoMemory>
-    ensures { OnOk result (text.new.items ≡ text.old.items ++ maps_text 0 maps.now) }
+    ensures ok { OnOk result (text.new.items ≡ text.old.items ++ maps_text 0 maps.now) }
+    ensures prefix { OnErr result (AddsPrefix text.old.items text.new.items (maps_text 0 maps.now)) }
 {
     for (number, map) in maps.iter().enumerate() {
-        put(text, b"MAP ")?;
-        put_number(text, number as u64)?;
-        put(text, b" args=")?;
-        print_bits(text, map.args.as_slice())?;
-        put(text, b" locals=")?;
-        print_bits(text, map.locals.as_slice())?;
-        put(text, b"\n")?;
+        print_map(text, number, map)?;
     }
     Ok(())
 }
 
+// The line of a map.
+fn print_map(text: &mut Vec<u8>, number: usize, map: &Map) -> Result<(), NoMemory>
+    ensures ok { OnOk result (text.new.items ≡ text.old.items ++ map_line number map.now) }
+    ensures prefix { OnErr result (AddsPrefix text.old.items text.new.items (map_line number map.now)) }
+{
+    put(text, b"MAP ")?;
+    put_number(text, number as u64)?;
+    print_map_words(text, b" args=", map.args.as_slice())?;
+    print_map_words(text, b" locals=", map.locals.as_slice())?;
+    put(text, b"\n")
+}
+
+// These bytes, and then a map's words of one kind.
+fn print_map_words(text: &mut Vec<u8>, name: &[u8], bits: &[bool]) -> Result<(), NoMemory>
+    ensures ok { OnOk result (text.new.items ≡ text.old.items ++ (name.now ++ bits_text bits.now)) }
+    ensures prefix { OnErr result (AddsPrefix text.old.items text.new.items (name.now ++ bits_text bits.now)) }
+{
+    put(text, name)?;
+    print_bits(text, bits)
+}
+
 // Bits, word 0 first, or a dash where there is none.
 fn print_bits(text: &mut Vec<u8>, bits: &[bool]) -> Result<(), NoMemory>
-    ensures { OnOk result (text.new.items ≡ text.old.items ++ bits_text bits.now) }
+    ensures ok { OnOk result (text.new.items ≡ text.old.items ++ bits_text bits.now) }
+    ensures prefix { OnErr result (AddsPrefix text.old.items text.new.items (bits_text bits.now)) }
 {
     if bits.is_empty() {
-        return put(text, b"-");
+        put(text, b"-")
+    } else {
+        print_each_bit(text, bits)
     }
+}
+
+fn print_each_bit(text: &mut Vec<u8>, bits: &[bool]) -> Result<(), NoMemory>
+    ensures ok { OnOk result (text.new.items ≡ text.old.items ++ flat_map bit_text bits.now) }
+    ensures prefix { OnErr result (AddsPrefix text.old.items text.new.items (flat_map bit_text bits.now)) }
+{
     for bit in bits {
         put(text, if *bit { b"1" } else { b"0" })?;
     }
@@ -96,18 +127,30 @@ fn print_bits(text: &mut Vec<u8>, bits: &[bool]) -> Result<(), NoMemory>
 
 // The lines of code.
 fn print_lines(text: &mut Vec<u8>, code: &Code) -> Result<(), NoMemory>
-    ensures { OnOk result (text.new.items ≡ text.old.items ++ lines_text code.now) }
+    ensures ok { OnOk result (text.new.items ≡ text.old.items ++ lines_text code.now) }
+    ensures prefix { OnErr result (AddsPrefix text.old.items text.new.items (lines_text code.now)) }
 {
     for line in code.lines.as_slice() {
-        print_line(text, code, line)?;
-        put(text, b"\n")?;
+        print_whole_line(text, code, line)?;
     }
     Ok(())
 }
 
+// One line of this code, with its end.
+fn print_whole_line(text: &mut Vec<u8>, code: &Code, line: &Line) -> Result<(), NoMemory>
+    ensures ok { OnOk result (text.new.items
+        ≡ text.old.items ++ whole_line code.now line.now) }
+    ensures prefix { OnErr result (AddsPrefix text.old.items text.new.items (whole_line code.now line.now)) }
+{
+    print_line(text, code, line)?;
+    put(text, b"\n")
+}
+
 // One line of this code, without its end.
 fn print_line(text: &mut Vec<u8>, code: &Code, line: &Line) -> Result<(), NoMemory>
-    ensures { OnOk result (text.new.items ≡ text.old.items ++ line_text code.now.out code.now.syms line.now) }
+    ensures ok { OnOk result (text.new.items ≡ text.old.items ++ line_text code.now.out code.now.syms line.now) }
+    ensures prefix { OnErr result
+        (AddsPrefix text.old.items text.new.items (line_text code.now.out code.now.syms line.now)) }
 {
     match line {
         Line::Label(block, held) => {
@@ -138,7 +181,7 @@ fn print_line(text: &mut Vec<u8>, code: &Code, line: &Line) -> Result<(), NoMemo
             block.print(text)
         }
         Line::BitBranch(set, register, block) => {
-            put(text, if *set { b"TBNZ $0, " } else { b"TBZ $0, " })?;
+            print_bit_test(text, *set)?;
             print_register(text, *register)?;
             put(text, b", ")?;
             block.print(text)
@@ -159,22 +202,41 @@ fn print_line(text: &mut Vec<u8>, code: &Code, line: &Line) -> Result<(), NoMemo
     }
 }
 
+// The test of a bit: whether it is set, or clear.
+fn print_bit_test(text: &mut Vec<u8>, set: bool) -> Result<(), NoMemory>
+    ensures ok { OnOk result (text.new.items ≡ text.old.items ++ bit_test_text set) }
+    ensures kept { OnErr result (text.new.items ≡ text.old.items) }
+{
+    put(text, if set { b"TBNZ $0, " } else { b"TBZ $0, " })
+}
+
 // The registers of a label and the values in them, each behind a space.
 fn print_held(text: &mut Vec<u8>, held: &[(u32, ValueId)]) -> Result<(), NoMemory>
-    ensures { OnOk result (text.new.items ≡ text.old.items ++ led (codes " ") held_text held.now) }
+    ensures ok { OnOk result (text.new.items ≡ text.old.items ++ led (codes " ") held_text held.now) }
+    ensures prefix { OnErr result (AddsPrefix text.old.items text.new.items (led (codes " ") held_text held.now)) }
 {
     for (register, value) in held {
-        put(text, b" ")?;
-        print_register(text, *register)?;
-        put(text, b"=")?;
-        value.print(text)?;
+        print_held_value(text, *register, value)?;
     }
     Ok(())
 }
 
+// A register and the value in it, behind a space.
+fn print_held_value(text: &mut Vec<u8>, register: u32, value: &ValueId) -> Result<(), NoMemory>
+    ensures ok { OnOk result (text.new.items ≡ text.old.items ++ (codes " " ++ held_text (register, value.now))) }
+    ensures prefix { OnErr result
+        (AddsPrefix text.old.items text.new.items (codes " " ++ held_text (register, value.now))) }
+{
+    put(text, b" ")?;
+    print_register(text, register)?;
+    put(text, b"=")?;
+    value.print(text)
+}
+
 // A computing line; of the machine's ops only the sum has a text yet.
 fn print_op(text: &mut Vec<u8>, op: Op, _aux: i64, operands: &Operands) -> Result<(), NoMemory>
-    ensures { OnOk result (text.new.items ≡ text.old.items ++ op_text op _aux operands.now) }
+    ensures ok { OnOk result (text.new.items ≡ text.old.items ++ op_text op _aux operands.now) }
+    ensures prefix { OnErr result (AddsPrefix text.old.items text.new.items (op_text op _aux operands.now)) }
 {
     match op {
         Op::Arm64ADD => {
@@ -187,7 +249,8 @@ fn print_op(text: &mut Vec<u8>, op: Op, _aux: i64, operands: &Operands) -> Resul
 
 // The second argument's register, the first argument's, and the result's.
 fn print_three_registers(text: &mut Vec<u8>, operands: &Operands) -> Result<(), NoMemory>
-    ensures { OnOk result (text.new.items ≡ text.old.items ++ three_regs operands.now) }
+    ensures ok { OnOk result (text.new.items ≡ text.old.items ++ three_regs operands.now) }
+    ensures prefix { OnErr result (AddsPrefix text.old.items text.new.items (three_regs operands.now)) }
 {
     print_register_or_none(text, operands.b)?;
     put(text, b", ")?;
@@ -197,14 +260,16 @@ fn print_three_registers(text: &mut Vec<u8>, operands: &Operands) -> Result<(), 
 }
 
 fn print_register(text: &mut Vec<u8>, register: u32) -> Result<(), NoMemory>
-    ensures { OnOk result (text.new.items ≡ text.old.items ++ reg_text register) }
+    ensures ok { OnOk result (text.new.items ≡ text.old.items ++ reg_text register) }
+    ensures prefix { OnErr result (AddsPrefix text.old.items text.new.items (reg_text register)) }
 {
     put(text, b"R")?;
     put_number(text, u64::from(register))
 }
 
 fn print_register_or_none(text: &mut Vec<u8>, register: Option<u32>) -> Result<(), NoMemory>
-    ensures { OnOk result (text.new.items ≡ text.old.items ++ reg_or_none register) }
+    ensures ok { OnOk result (text.new.items ≡ text.old.items ++ reg_or_none register) }
+    ensures prefix { OnErr result (AddsPrefix text.old.items text.new.items (reg_or_none register)) }
 {
     match register {
         None => Ok(()),
@@ -214,7 +279,9 @@ fn print_register_or_none(text: &mut Vec<u8>, register: Option<u32>) -> Result<(
 
 // A place in this code; a home has no text.
 fn print_place(text: &mut Vec<u8>, code: &Code, place: &Place) -> Result<(), NoMemory>
-    ensures { OnOk result (text.new.items ≡ text.old.items ++ place_text code.now.out code.now.syms place.now) }
+    ensures ok { OnOk result (text.new.items ≡ text.old.items ++ place_text code.now.out code.now.syms place.now) }
+    ensures prefix { OnErr result
+        (AddsPrefix text.old.items text.new.items (place_text code.now.out code.now.syms place.now)) }
 {
     match place {
         Place::Reg(register) => print_register(text, *register),
@@ -239,7 +306,8 @@ fn print_place(text: &mut Vec<u8>, code: &Code, place: &Place) -> Result<(), NoM
 
 // A word of the frame that stands behind these outgoing words.
 fn print_stack_word(text: &mut Vec<u8>, out: u32, word: u32) -> Result<(), NoMemory>
-    ensures { OnOk result (text.new.items ≡ text.old.items ++ stack_text (frame_offset out word)) }
+    ensures ok { OnOk result (text.new.items ≡ text.old.items ++ stack_text (frame_offset out word)) }
+    ensures prefix { OnErr result (AddsPrefix text.old.items text.new.items (stack_text (frame_offset out word))) }
 {
     put_number(text, 8 + 8 * (u64::from(out) + u64::from(word)))?;
     put(text, b"(RSP)")
@@ -247,7 +315,8 @@ fn print_stack_word(text: &mut Vec<u8>, out: u32, word: u32) -> Result<(), NoMem
 
 // A symbol of this code; one that isn't there has no text.
 fn print_symbol(text: &mut Vec<u8>, code: &Code, symbol: u32) -> Result<(), NoMemory>
-    ensures { OnOk result (text.new.items ≡ text.old.items ++ sym_text code.now.syms symbol) }
+    ensures ok { OnOk result (text.new.items ≡ text.old.items ++ sym_text code.now.syms symbol) }
+    ensures prefix { OnErr result (AddsPrefix text.old.items text.new.items (sym_text code.now.syms symbol)) }
 {
     match code.syms.as_slice().get(symbol as usize) {
         None => Ok(()),
@@ -256,7 +325,8 @@ fn print_symbol(text: &mut Vec<u8>, code: &Code, symbol: u32) -> Result<(), NoMe
 }
 
 fn print_condition(text: &mut Vec<u8>, condition: CondCode) -> Result<(), NoMemory>
-    ensures { OnOk result (text.new.items ≡ text.old.items ++ cond_text condition) }
+    ensures ok { OnOk result (text.new.items ≡ text.old.items ++ cond_text condition) }
+    ensures prefix { OnErr result (AddsPrefix text.old.items text.new.items (cond_text condition)) }
 {
     match condition {
         CondCode::EQ => put(text, b"EQ"),
@@ -290,7 +360,8 @@ impl Print for Note {
 
 // These bytes, and then a value's name.
 fn noted(text: &mut Vec<u8>, words: &[u8], value: &ValueId) -> Result<(), NoMemory>
-    ensures { OnOk result (text.new.items ≡ text.old.items ++ (words.now ++ value_text value.now)) }
+    ensures ok { OnOk result (text.new.items ≡ text.old.items ++ (words.now ++ value_text value.now)) }
+    ensures prefix { OnErr result (AddsPrefix text.old.items text.new.items (words.now ++ value_text value.now)) }
 {
     put(text, words)?;
     value.print(text)

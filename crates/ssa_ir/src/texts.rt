@@ -1,8 +1,11 @@
 // The texts of types and signatures, which dumps and listings share.
 
-ghost use Rattle.std.specs.Prelude.{◌≡◌, ◌++◌, OnOk};
+#![tactic(auto, using(gossa_base::proofs::PrefixLemmas::prefixes))]
+
+ghost use Rattle.std.specs.Prelude.{◌≡◌, ◌++◌, OnOk, OnErr};
+ghost use Rattle.gossa_base.specs.Prefixes.{AddsPrefix};
 ghost use Rattle.std.specs.List.{flat_map};
-ghost use Rattle.ssa_ir.specs.Texts.{scalar_name, sig_text, sig_line};
+ghost use Rattle.ssa_ir.specs.Texts.{scalar_name, group_text, results_text, sig_text, sig_line};
 
 use crate::types::{Scalar, Sig};
 use gossa_base::{NoMemory, Print, print_joined, put};
@@ -32,27 +35,51 @@ impl Print for Sig {
 
     fn print(&self, out: &mut Vec<u8>) -> Result<(), NoMemory> {
         self.name.print(out)?;
-        put(out, b"(")?;
-        print_joined(out, b", ", self.params.as_slice())?;
-        put(out, b")")?;
-        if self.results.is_empty() {
-            return Ok(());
-        }
-        put(out, b" (")?;
-        print_joined(out, b", ", self.results.as_slice())?;
-        put(out, b")")
+        print_group(out, self.params.as_slice())?;
+        print_results(out, self.results.as_slice())
     }
 }
 
-/// Appends the `sig` lines of signatures that a unit names. An error comes only for want of memory, and may leave a part
-/// of the text behind.
+// Types in parentheses.
+fn print_group(out: &mut Vec<u8>, types: &[Scalar]) -> Result<(), NoMemory>
+    ensures ok { OnOk result (out.new.items ≡ out.old.items ++ group_text types.now) }
+    ensures prefix { OnErr result (AddsPrefix out.old.items out.new.items (group_text types.now)) }
+{
+    put(out, b"(")?;
+    print_joined(out, b", ", types)?;
+    put(out, b")")
+}
+
+// The group of results, which is absent where there are none.
+fn print_results(out: &mut Vec<u8>, types: &[Scalar]) -> Result<(), NoMemory>
+    ensures ok { OnOk result (out.new.items ≡ out.old.items ++ results_text types.now) }
+    ensures prefix { OnErr result (AddsPrefix out.old.items out.new.items (results_text types.now)) }
+{
+    if types.is_empty() {
+        return Ok(());
+    }
+    put(out, b" ")?;
+    print_group(out, types)
+}
+
+/// Appends the `sig` lines of signatures that a unit names. An error comes only for want of memory, and leaves a
+/// prefix of the text behind.
 pub fn print_sigs(out: &mut Vec<u8>, sigs: &[Sig]) -> Result<(), NoMemory>
-    ensures { OnOk result (out.new.items ≡ out.old.items ++ flat_map sig_line sigs.now) }
+    ensures ok { OnOk result (out.new.items ≡ out.old.items ++ flat_map sig_line sigs.now) }
+    ensures prefix { OnErr result (AddsPrefix out.old.items out.new.items (flat_map sig_line sigs.now)) }
 {
     for sig in sigs {
-        put(out, b"sig ")?;
-        sig.print(out)?;
-        put(out, b"\n")?;
+        print_sig_line(out, sig)?;
     }
     Ok(())
+}
+
+// The line of a signature.
+fn print_sig_line(out: &mut Vec<u8>, sig: &Sig) -> Result<(), NoMemory>
+    ensures ok { OnOk result (out.new.items ≡ out.old.items ++ sig_line sig.now) }
+    ensures prefix { OnErr result (AddsPrefix out.old.items out.new.items (sig_line sig.now)) }
+{
+    put(out, b"sig ")?;
+    sig.print(out)?;
+    put(out, b"\n")
 }

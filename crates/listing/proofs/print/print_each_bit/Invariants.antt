@@ -1,7 +1,7 @@
 use Rattle.std.proofs.Common.{◌≡◌, ◌++◌, take}
 use Rattle.std.specs.List.{flat_map}
 use Rattle.listing.specs.Text.{bit_text}
-use Rattle.listing.proofs.print.print_bits.Given as goal
+use Rattle.listing.proofs.print.print_each_bit.Given as goal
 
 -- the bits so far are appended
 abbrev pub invariant-loop-bit : goal.invariant-loop-bit
