@@ -25,8 +25,7 @@ use Rattle.ssa_check.specs.Items.{HasItems, Indexes, IsLeast, IsOnCycle, first_f
 use Rattle.ssa_check.specs.Tables.{place_in, places_from, places_in, places_of}
 use Rattle.ssa_check.specs.ValueChecks.{arity_holds, is_number_of}
 use Rattle.ssa_check.proofs.ItemLists.{At, any_from_at, first_at}
-use Rattle.ssa_check.proofs.LowestLemmas.{any_none}
-use Rattle.ssa_check.proofs.WalkRanks.{any_front, any_push_cases}
+use Rattle.graphs.proofs.AnyLemmas.{any_none, any_front, any_push_cases}
 
 -- ---- the least place
 

@@ -12,7 +12,7 @@ use Rattle.ssa_check.specs.declared.edges.Edge.{Edge}
 use Rattle.ssa_check.specs.BlockChecks.{times}
 use Rattle.ssa_check.specs.EdgeTables.{same_edge, outgoing, incoming, all_outgoing, all_incoming}
 use Rattle.ssa_check.proofs.EdgeOrderLemmas.{count}
-use Rattle.ssa_check.proofs.LowestLemmas.{any_here, any_later}
+use Rattle.graphs.proofs.AnyLemmas.{any_here, any_later}
 
 count_append : (e : Edge) (xs ys : List Edge) → count e (xs ++ ys) ≡ count e xs + count e ys
 count_append e xs ys =

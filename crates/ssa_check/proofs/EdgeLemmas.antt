@@ -12,7 +12,8 @@ use Rattle.ssa_check.specs.EdgeTables.{edge_cmp, all_outgoing, all_incoming, fir
 use Rattle.ssa_check.specs.Tables.{lowest_block}
 use Rattle.ssa_check.proofs.EdgeCountLemmas.{Apart, some_or_none, unsplit_of, times_by_number, none_named, outgoing_of, incoming_of, no_outgoing, no_incoming}
 use Rattle.ssa_check.proofs.EdgeOrderLemmas.{count, count_moved, ascends, Differs, lowest_difference}
-use Rattle.ssa_check.proofs.LowestLemmas.{any_here, any_later, IsLowest, same_lowest}
+use Rattle.graphs.proofs.AnyLemmas.{any_here, any_later}
+use Rattle.ssa_check.proofs.LowestLemmas.{IsLowest, same_lowest}
 use Rattle.ssa_check.proofs.PlaceLemmas.{BlockCounts, blocks_lowest}
 
 -- numbers have one lowest

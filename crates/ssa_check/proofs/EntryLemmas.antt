@@ -14,7 +14,7 @@ use Rattle.ssa_check.specs.declared.refusal.At.TheVariants.{Func as AtFunc, Valu
 use Rattle.ssa_check.specs.declared.refusal.Check.TheVariants.{Entry}
 use Rattle.ssa_check.specs.Failing.{Meets}
 use Rattle.ssa_check.specs.ValueChecks.{is_first_of}
-use Rattle.ssa_check.proofs.LowestLemmas.{any_none}
+use Rattle.graphs.proofs.AnyLemmas.{any_none}
 
 -- a block is the first of these, and has predecessors
 abbrev IsTakenEntry : List Block → Block → Type 0

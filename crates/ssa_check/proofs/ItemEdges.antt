@@ -8,7 +8,7 @@ use Rattle.ssa_ir.specs.declared.op.Op.{Op}
 use Rattle.ssa_ir.specs.declared.func.Value.{Value}
 use Rattle.ssa_ir.specs.FirstOrder.{changes_memory, memory_taken, reads_memory}
 use Rattle.ssa_check.specs.Items.{arg_edges, block_edges, changer_edge, edge_to, edges_from, first_of, is_index, leads, memory_edges, memory_edges_by, owner, owner_of, reader_edge, value_edges}
-use Rattle.ssa_check.proofs.CycleGraphs.{have_edge, is_edge}
+use Rattle.graphs.proofs.GraphLemmas.{have_edge, is_edge}
 use Rattle.ssa_check.proofs.ItemLists.{At, any_at, any_flat_map, find_any}
 use Rattle.ssa_check.proofs.ItemOwners.{IsItem}
 

@@ -8,8 +8,8 @@ use Rattle.std.proofs.lemmas.List.{append_assoc, drop_more, length-take-le, take
 use Rattle.gossa_base.specs.declared.ids.ValueId.{ValueId}
 use Rattle.ssa_ir.specs.declared.func.Value.{Value}
 use Rattle.ssa_ir.specs.FirstOrder.{memory_taken, same_memory}
-use Rattle.ssa_check.specs.declared.reach.Edge.{Edge}
-use Rattle.ssa_check.specs.declared.reach.Named.{Named}
+use Rattle.graphs.specs.declared.graph.Edge.{Edge}
+use Rattle.graphs.specs.declared.loops.Named.{Named}
 use Rattle.ssa_check.proofs.ItemLists.{At, first_at}
 use Rattle.ssa_check.specs.Items.{block_edges, block_names, edges_from, first_from, first_taker, name_of, names_from, owner_of, takes_memory, value_edges}
 

@@ -7,18 +7,20 @@ use Rattle.std.proofs.lemmas.Option.{slice_get-get_or, slice_get_within}
 use Rattle.gossa_base.specs.declared.ids.ValueId.{ValueId}
 use Rattle.ssa_ir.specs.declared.func.Value.{Value}
 use Rattle.ssa_ir.specs.FirstOrder.{memory_taken, reads_memory}
-use Rattle.ssa_check.specs.declared.reach.Edge.{Edge}
-use Rattle.ssa_check.specs.declared.reach.Named.{Named}
+use Rattle.graphs.specs.declared.graph.Edge.{Edge}
+use Rattle.graphs.specs.declared.loops.Named.{Named}
 use Rattle.ssa_check.specs.Cycles.{CycleThrough, IsWalk, OnCycle, leaders, stands_before}
 use Rattle.ssa_check.specs.Items.{HasItems, IsLeast, IsOnCycle, block_edges, block_names, is_index, name_of, names_from, owner, owner_of}
-use Rattle.ssa_check.specs.Walks.{Chosen, ComesBack, IsPath, Leads, LeastOnLoop, graph_of, has_edge}
-use Rattle.ssa_check.proofs.CycleGraphs.{graph_has, have_edge, is_edge}
+use Rattle.graphs.specs.Graphs.{ComesBack, graph_of, has_edge}
+use Rattle.graphs.specs.Loops.{Chosen, LeastOnLoop}
+use Rattle.graphs.specs.Paths.{IsPath, Leads}
+use Rattle.graphs.proofs.GraphLemmas.{graph_has, have_edge, is_edge}
 use Rattle.ssa_check.proofs.ItemEdges.{EdgeKind, Takes, TakesFirst, arg_edge, change_edge, edge_kind, is_index_some, read_edge}
 use Rattle.ssa_check.proofs.ItemLists.{At, Found, any_at, any_from_at, at_any, find_any}
 use Rattle.ssa_check.proofs.ItemOwners.{IsItem, item_leader, item_owner, leader_item, owner_found, owner_has, owner_is_item, owner_item, same_item}
 use Rattle.ssa_check.proofs.ItemStands.{ReadsBefore, first_same, first_taken, same_first, stands_by_reading, stands_by_taking, stands_from, taken_first, same_memories}
-use Rattle.ssa_check.proofs.LowestLemmas.{any_none, any_here, any_later, any_cases}
-use Rattle.ssa_check.proofs.WalkLemmas.{leads_along}
+use Rattle.graphs.proofs.AnyLemmas.{any_none, any_here, any_later, any_cases}
+use Rattle.graphs.proofs.PathLemmas.{leads_along}
 
 module _ (block : List Value) (has : HasItems block) where
   -- ---- bounds

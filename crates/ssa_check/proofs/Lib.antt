@@ -1,5 +1,6 @@
 pub mod BitRowLemmas
 pub mod BitWordLemmas
+pub mod BlockSizes
 pub mod CalleeBlockLemmas
 pub mod CalleeLemmas
 pub mod CalleeSelectLemmas
@@ -7,9 +8,7 @@ pub mod ChainLemmas
 pub mod ChainWalkLemmas
 pub mod CircleLemmas
 pub mod ControlLemmas
-pub mod CycleGraphs
 pub mod CyclePlaces
-pub mod CycleRanks
 pub mod DefinedLemmas
 pub mod EdgeCountLemmas
 pub mod EdgeLemmas
@@ -48,6 +47,3 @@ pub mod TypeLemmas
 pub mod UndefinedLemmas
 pub mod UndefinedPathLemmas
 pub mod ValueTableLemmas
-pub mod WalkLemmas
-pub mod WalkRanks
-pub mod WalkSearch

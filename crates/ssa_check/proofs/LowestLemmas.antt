@@ -1,25 +1,9 @@
 -- What the lowest number of what fails is: one of the failing numbers, and no failing one is below it.
-use Rattle.std.proofs.Common.{◌≡◌, ℕ, zero, suc, ◌≤◌, ◌⊎◌, inl, inr, Bool, true, false, nat_lt, if◌then◌else◌, List, [], ◌∷◌, Option, None, Some, refl, subst, sym, arith}
+use Rattle.std.proofs.Common.{◌≡◌, ℕ, ◌≤◌, ◌⊎◌, inl, inr, Bool, true, false, nat_lt, if◌then◌else◌, List, [], ◌∷◌, Option, None, Some, refl, arith}
 use Rattle.std.specs.List.{Any, fold}
 use Rattle.std.proofs.lemmas.Bool.{ltb-true, ltb-false}
+use Rattle.graphs.proofs.AnyLemmas.{any_cases, any_here, any_later, any_none}
 use Rattle.ssa_check.specs.Tables.{lower_where}
-
--- ---- some item of a list
-
-pub any_none : {X : Type 0} {P : X → Type 0} → Any P [] → ⊥
-any_none (k, x, within, is, p) = omega (arith, within)
-
-pub any_here : {X : Type 0} {P : X → Type 0} (x : X) (xs : List X) → P x → Any P (x ∷ xs)
-any_here x xs p = (zero, x, omega arith, refl, p)
-
-pub any_later : {X : Type 0} {P : X → Type 0} (x : X) (xs : List X) → Any P xs → Any P (x ∷ xs)
-any_later x xs (k, y, within, is, p) = (suc k, y, omega (arith, within), is, p)
-
-pub any_cases : {X : Type 0} {P : X → Type 0} (x : X) (xs : List X) → Any P (x ∷ xs) → P x ⊎ Any P xs
-any_cases {X} {P} x xs (zero, y, within, is, p) = inl (subst P (sym is) p)
-any_cases x xs (suc k, y, within, is, p) = inr (k, y, omega (arith, within), is, p)
-
--- ---- the lowest
 
 -- the lowest of the numbers that are so, if there is one
 abbrev pub IsLowest : Option ℕ → (ℕ → Type 0) → Type 0

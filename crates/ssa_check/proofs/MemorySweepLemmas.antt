@@ -15,7 +15,7 @@ use Rattle.ssa_check.specs.declared.memories.Leaves.{Leaves}
 use Rattle.ssa_check.specs.declared.memories.Leaves.TheVariants.{Through, Known, Unknown}
 use Rattle.ssa_check.specs.declared.memories.Passed.{Passed}
 use Rattle.ssa_check.specs.declared.memories.Passed.TheVariants.{NoPath, Always, Varies}
-use Rattle.ssa_check.proofs.WalkSearch.{among_cases, among_here, among_later}
+use Rattle.graphs.proofs.AmongLemmas.{among_cases, among_here, among_later}
 
 -- ---- what is passed covers a memory that a path has
 

@@ -13,7 +13,8 @@ use Rattle.ssa_check.specs.declared.refusal.Check.{Check}
 use Rattle.ssa_ir.specs.WellFormed.{WellFormedFunc}
 use Rattle.ssa_check.specs.Failing.{FuncFails, ValueFails, BlockFails, FailsAt, at_value, at_block, IsBefore, Meets, LeastPlace}
 use Rattle.ssa_check.specs.Tables.{lowest_in, lowest_value, lowest_block}
-use Rattle.ssa_check.proofs.LowestLemmas.{any_none, any_here, any_later, any_cases, IsLowest, same_lowest, Counts, fold_lowest}
+use Rattle.graphs.proofs.AnyLemmas.{any_none, any_here, any_later, any_cases}
+use Rattle.ssa_check.proofs.LowestLemmas.{IsLowest, same_lowest, Counts, fold_lowest}
 
 -- the numbers of the values that fail a test
 abbrev pub ValueCounts : (Block → Value → Bool) → List Block → ℕ → Type 0

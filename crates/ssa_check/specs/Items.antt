@@ -6,8 +6,8 @@ use Rattle.gossa_base.specs.declared.ids.ValueId.{ValueId}
 use Rattle.ssa_ir.specs.declared.op.Op.{Op}
 use Rattle.ssa_ir.specs.declared.func.Value.{Value}
 use Rattle.ssa_ir.specs.FirstOrder.{changes_memory, is_call, is_follower, is_phi, memory_taken, reads_memory, same_memory, same_value}
-use Rattle.ssa_check.specs.declared.reach.Edge.{Edge}
-use Rattle.ssa_check.specs.declared.reach.Named.{Named}
+use Rattle.graphs.specs.declared.graph.Edge.{Edge}
+use Rattle.graphs.specs.declared.loops.Named.{Named}
 use Rattle.ssa_check.specs.declared.values.Place.{Place}
 use Rattle.ssa_check.specs.Cycles.{OnCycle}
 use Rattle.ssa_check.specs.Tables.{place_in}

@@ -33,4 +33,3 @@ pub mod Tables
 pub mod UndefinedTables
 pub mod Uses
 pub mod ValueChecks
-pub mod Walks

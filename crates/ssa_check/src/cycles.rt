@@ -9,9 +9,6 @@ ghost use Rattle.ssa_check.specs.Failing.{Meets, LeastPlace};
 ghost use Rattle.ssa_check.specs.Items as spec;
 ghost use Rattle.ssa_check.specs.Tables.{places_of};
 
-pub(crate) mod loops;
-mod ranks;
-
 use crate::items::Items;
 use crate::lowest::value_place;
 use crate::refusal::At;

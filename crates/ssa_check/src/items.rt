@@ -6,11 +6,10 @@ ghost use Rattle.gossa_base.specs.declared.ids.ValueId.{ValueId as IrValueId};
 ghost use Rattle.ssa_ir.specs.FirstOrder as order;
 ghost use Rattle.ssa_check.specs.Items as spec;
 
-use crate::cycles::loops::lowest_on_loop;
 use crate::ops::{is_call, is_phi, is_select};
-use crate::reach::{Edge, Named};
 use crate::values::ValueTable;
 use gossa_base::{NoMemory, ValueId};
+use graphs::{Edge, Named, lowest_on_loop};
 use indexmap::IndexMap;
 use ssa_ir::{Op, Value, op_row};
 use std::alloc::Global;
@@ -248,11 +247,10 @@ impl Items<'_> {
     pub(crate) fn lowest_on_cycle(&self, alloc: Global) -> Result<Option<u32>, NoMemory>
         requires indexes { spec.Indexes self.now.table.now self.now.block self.now.values.now }
         requires has_items { spec.HasItems self.now.values.now }
+        requires fits { length self.now.values.now + length self.now.values.now < 2 ^ 64 }
         ensures { IfOk result (λ lowest. spec.IsLeast lowest (spec.IsOnCycle self.now.values.now)) }
     {
-        let Some(nodes) = self.values.len().checked_mul(2) else {
-            return Err(NoMemory);
-        };
+        let nodes = self.values.len() + self.values.len();
         let edges = self.edges(alloc)?;
         let names = self.names(alloc)?;
         match lowest_on_loop(alloc, nodes, edges.as_slice(), names.as_slice())? {

@@ -4,8 +4,8 @@
 //! then its values by number, then its blocks by number. Each check is a definition of its own (`specs/`), which says what
 //! must hold; [`check`] gives back the unit as [`Checked`], or answers exactly the first function, check and place at which
 //! one doesn't. Tables are made once: where each value stands, the signatures by name, the selects of each call, the edges in
-//! order. Values that wait for each other in a circle are found by ranks that never rise along an edge; a search from the
-//! lowest value whose rank stays the same confirms the cycle.
+//! order. Values that wait for each other in a circle are found by ranks that never fall along an edge (crate `graphs`); a
+//! search from the lowest value whose rank stays the same confirms the cycle.
 //!
 //! Two checks speak of all paths from the entry. For definitions each block has a row of bits, the blocks that every path to
 //! it passes; for memory it has the one memory that all paths through its end pass, if there is one. Both tables are swept
@@ -42,7 +42,6 @@ mod memory;
 mod ops;
 mod parameters;
 mod passed;
-mod reach;
 pub mod refusal;
 pub mod signatures;
 mod types;

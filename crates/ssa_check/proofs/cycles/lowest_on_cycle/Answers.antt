@@ -1,10 +1,11 @@
-use Rattle.std.proofs.Common.{◌≡◌, ℕ, ◌+◌, ◌<◌, ◌≤◌, List, [], ◌∷◌, ◌++◌, length, get_or, take, Some, sym, subst, ap, ◌∙◌, arith}
+use Rattle.std.proofs.Common.{◌≡◌, ℕ, ◌+◌, ◌^◌, ◌<◌, ◌≤◌, List, [], ◌∷◌, ◌++◌, length, get_or, take, Some, sym, subst, ap, ◌∙◌, arith}
 use Rattle.std.proofs.lemmas.List.{take_all, take_more}
 use Rattle.std.proofs.lemmas.Option.{slice_get-get_or}
 use Rattle.ssa_ir.specs.declared.func.Block.{Block}
 use Rattle.ssa_ir.specs.declared.func.SsaUnit.{SsaUnit}
 use Rattle.ssa_ir.specs.declared.func.Value.{Value}
 use Rattle.ssa_check.specs.Items.{HasItems, Indexes, IsLeast, IsOnCycle, lower_of}
+use Rattle.ssa_check.proofs.BlockSizes.{block_fits}
 use Rattle.ssa_check.proofs.CyclePlaces.{OnCycleOf, has_items, indexes, one_more_block}
 use Rattle.ssa_check.proofs.ItemLists.{At}
 use Rattle.ssa_check.proofs.cycles.lowest_on_cycle.Goals as goal
@@ -41,6 +42,15 @@ lowest_on_cycle-requires-clause-has_items c =
     c.block-item.is in
     subst HasItems (sym c.as_slice.ensures)
     (has_items no_unit c.args.func.now c.requires.well_formed (c.requires.arity no_unit) c.loop-index.index b at)
+
+pub lowest_on_cycle-requires-clause-fits : goal.lowest_on_cycle-requires-clause-fits
+lowest_on_cycle-requires-clause-fits c =
+    let b : Block = c.block-item.result in
+    let at : At c.args.func.now.blocks c.loop-index.index b =
+    at_item c.as_slice-block-items.result.now c.args.func.now.blocks c.loop-index.index b c.as_slice-block-items.ensures c.loop-index-test.true
+    c.block-item.is in
+    subst (λ (values : List Value). length values + length values < 2 ^ 64) (sym c.as_slice.ensures)
+    (block_fits c.args.func.now c.requires.well_formed c.loop-index.index b at)
 
 pub loop-index-preserved : goal.loop-index-preserved
 loop-index-preserved c =

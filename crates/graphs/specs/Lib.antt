@@ -1,0 +1,5 @@
+pub mod Graphs
+pub mod Loops
+pub mod Paths
+pub mod Ranks
+pub mod Searches

@@ -1,6 +1,0 @@
-use Rattle.std.proofs.Common.{arith}
-use Rattle.ssa_check.proofs.CycleGraphs.{map_empty}
-use Rattle.ssa_check.proofs.reach.Graph.without_edges.Goals as goal
-
-pub returns : goal.returns
-returns c = map_empty c.args.nodes c.loop.targets.items (omega (arith, c.loop.invariant.1)) c.loop.invariant.0

@@ -1,7 +1,0 @@
-use Rattle.std.proofs.Common.{◌≡◌, [], length}
-use Rattle.std.specs.List.{All}
-use Rattle.ssa_check.proofs.reach.Graph.without_edges.Given as goal
-
--- each node so far has no edge
-abbrev pub invariant-loop : goal.invariant-loop
-invariant-loop l = All (λ nodes. nodes.items ≡ []) l.targets.items × (length l.targets.items ≡ l.counter)

@@ -1,8 +1,0 @@
-use Rattle.std.proofs.Common.{◌≡◌, length, take}
-use Rattle.ssa_check.specs.Walks.{reach_all}
-use Rattle.ssa_check.proofs.reach.Search.reach_all.Given as goal
-
--- the nodes so far are reached
-abbrev pub invariant-loop-node : goal.invariant-loop-node
-invariant-loop-node l =
-    (l.self ≡ reach_all l.initial.self (take l.node-index l.nodes)) × (length l.self.seen ≡ length l.initial.self.seen)
