@@ -1,4 +1,4 @@
--- Why the program answers as it does.
+-- Why the program answers as it does. Where the answer is no fault, none was met.
 use Rattle.std.specs.Prelude.{◌≡◌, ℕ, List, Option, None, Some}
 use Rattle.std.specs.Io.KnownBytes.{Appends}
 use Rattle.gossa_base.specs.Faults.{Faulted}
@@ -10,20 +10,23 @@ use Rattle.gossa_core.specs.declared.status.Outcome.TheVariants.{Done, NotBuilt,
 use Rattle.gossa_core.specs.declared.words.Command.{Command}
 use Rattle.gossa_core.specs.Outputs.{input_limit, Makes}
 use Rattle.gossa_core.specs.Unmade.{FailsCheck, LeavesUnbuilt, Misspells}
-use Rattle.gossa_core.specs.Worlds.{World, NothingRead, NothingWritten}
+use Rattle.gossa_core.specs.Worlds.{World, NoReadFault, NoWriteFault, NothingRead, NothingWritten}
 
 -- the whole input was read, and the command's output of it was written
 pub record Finishes (c : Command) (before after : World) : Type 0 where
   pub text : List ℕ
   pub read : ReadsWhole input_limit before.left after.left text
+  pub calm_source : NoReadFault before after
   pub output : List ℕ
   pub made : Makes c text output
   pub written : Appends before.held after.held output
+  pub calm_sink : NoWriteFault before after
 
 -- the whole input was read, and isn't compiled yet
 pub record IsNotBuilt (c : Command) (before after : World) : Type 0 where
   pub text : List ℕ
   pub read : ReadsWhole input_limit before.left after.left text
+  pub calm_source : NoReadFault before after
   pub unbuilt : LeavesUnbuilt c text
   pub unwritten : NothingWritten before after
 
@@ -31,6 +34,7 @@ pub record IsNotBuilt (c : Command) (before after : World) : Type 0 where
 pub record IsRefusedText (refusal : TextRefusal) (before after : World) : Type 0 where
   pub text : List ℕ
   pub read : ReadsWhole input_limit before.left after.left text
+  pub calm_source : NoReadFault before after
   pub refused : Misspells text refusal
   pub unwritten : NothingWritten before after
 
@@ -38,12 +42,14 @@ pub record IsRefusedText (refusal : TextRefusal) (before after : World) : Type 0
 pub record IsRefusedUnit (fault : CheckFault) (before after : World) : Type 0 where
   pub text : List ℕ
   pub read : ReadsWhole input_limit before.left after.left text
+  pub calm_source : NoReadFault before after
   pub refused : FailsCheck text fault
   pub unwritten : NothingWritten before after
 
 -- byte `input_limit + 1` was read
 pub record IsTooLong (before after : World) : Type 0 where
   pub read : ReadsPast input_limit before.left after.left
+  pub calm_source : NoReadFault before after
   pub unwritten : NothingWritten before after
 
 -- the source met a fault
@@ -56,14 +62,16 @@ pub record MeetsReadFault (before after : World) : Type 0 where
 pub record MeetsWriteFault (c : Command) (before after : World) : Type 0 where
   pub text : List ℕ
   pub read : ReadsWhole input_limit before.left after.left text
+  pub calm_source : NoReadFault before after
   pub output : List ℕ
   pub made : Makes c text output
   pub faulted : Faulted before.write_faults after.write_faults
   pub written : AppendsPrefix before.held after.held output
 
--- there was no memory for the input or for what is made of it
+-- there was no memory for the input or for what is made of it, and nothing failed before that
 pub record LacksMemory (before after : World) : Type 0 where
   pub read : ReadsWithin input_limit before.left after.left
+  pub calm_source : NoReadFault before after
   pub unwritten : NothingWritten before after
 
 -- why a command answers as it does

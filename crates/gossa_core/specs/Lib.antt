@@ -11,6 +11,7 @@ pub mod Parameters
 pub mod Places
 pub mod Plain
 pub mod RefusalText
+pub mod Refused
 pub mod Row
 pub mod RunLengths
 pub mod ShownText

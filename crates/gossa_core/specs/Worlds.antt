@@ -14,12 +14,20 @@ pub record Errors : Type 0 where
   pub told : Option (List ℕ)
   pub tell_faults : ℕ
 
+-- the source met no fault
+abbrev pub NoReadFault : World → World → Type 0
+NoReadFault before after = after.read_faults ≡ before.read_faults
+
+-- the sink met no fault
+abbrev pub NoWriteFault : World → World → Type 0
+NoWriteFault before after = after.write_faults ≡ before.write_faults
+
 -- nothing was written
 pub record NothingWritten (before after : World) : Type 0 where
   pub held : after.held ≡ before.held
-  pub faults : after.write_faults ≡ before.write_faults
+  pub calm : NoWriteFault before after
 
 -- nothing was read
 pub record NothingRead (before after : World) : Type 0 where
   pub left : after.left ≡ before.left
-  pub faults : after.read_faults ≡ before.read_faults
+  pub calm : NoReadFault before after

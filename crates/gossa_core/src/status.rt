@@ -3,9 +3,10 @@
 ghost use Rattle.std.specs.Prelude.{◌≡◌};
 ghost use Rattle.gossa_core.specs.Status.{number_of};
 ghost use Rattle.gossa_core.specs.Answer.{status_of};
+ghost use Rattle.gossa_core.specs.Refused.{outcome_of_read, outcome_of_text, outcome_of_fault};
 
-use gossa_base::Name;
-use ssa_check::{At, Check};
+use gossa_base::{Name, NoMemory, ReadRefusal};
+use ssa_check::{At, Check, Fault};
 use ssa_text::TextRefusal;
 
 /// How the program ends, by the number that its process ends with.
@@ -86,6 +87,45 @@ impl Outcome {
             Outcome::ReadFault => Status::ReadFault,
             Outcome::WriteFault => Status::WriteFault,
             Outcome::NoMemory => Status::NoMemory,
+        }
+    }
+}
+
+impl From<ReadRefusal> for Outcome {
+    ghost from_gives = { λ refusal outcome. outcome ≡ outcome_of_read refusal };
+
+    fn from(refusal: ReadRefusal) -> Outcome {
+        match refusal {
+            ReadRefusal::ReadFault => Outcome::ReadFault,
+            ReadRefusal::TooLong => Outcome::TooLong,
+            ReadRefusal::NoMemory => Outcome::NoMemory,
+        }
+    }
+}
+
+impl From<TextRefusal> for Outcome {
+    ghost from_gives = { λ refusal outcome. outcome ≡ outcome_of_text refusal };
+
+    fn from(refusal: TextRefusal) -> Outcome {
+        match refusal {
+            TextRefusal::NoMemory => Outcome::NoMemory,
+            fault => Outcome::Text(fault),
+        }
+    }
+}
+
+impl Outcome {
+    // The outcome of a unit's first fault, whose function has this name, where there was memory for the name.
+    pub(crate) fn of_fault(fault: Fault, name: Result<Name, NoMemory>) -> Outcome
+        ensures { result ≡ outcome_of_fault fault name }
+    {
+        match name {
+            Ok(func) => Outcome::Check(CheckFault {
+                func,
+                check: fault.check,
+                at: fault.at,
+            }),
+            Err(NoMemory) => Outcome::NoMemory,
         }
     }
 }

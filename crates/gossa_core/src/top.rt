@@ -20,16 +20,14 @@ use crate::names::same_name;
 use crate::narrow::all_narrow;
 use crate::plain::allocate_all;
 use crate::run::show_cases;
-use crate::status::{CheckFault, Outcome, Status};
+use crate::status::{Outcome, Status};
 use crate::telling::tell;
 use crate::words::{Command, read_words};
-use gossa_base::{
-    Bytes, Failed, NoMemory, ReadRefusal, Sequence, Sink, Source, put, read_all, write_all,
-};
+use gossa_base::{Bytes, Failed, NoMemory, Sequence, Sink, Source, put, read_all, write_all};
 use listing::{Listings, print_listing};
 use ssa_check::{CheckRefusal, Checked, Fault, check};
 use ssa_ir::SsaUnit;
-use ssa_text::{TextRefusal, print_unit_cases, read_unit};
+use ssa_text::{print_unit_cases, read_unit};
 use std::alloc::Global;
 
 /// How many bytes are read at the most.
@@ -39,7 +37,8 @@ const INPUT_LIMIT: usize = 8_388_608;
 ///
 /// The words are looked at first, then the input is read to its end, then the unit that it spells is checked, then it is
 /// judged and compiled, or its cases are run, and then all output is written. So nothing is in `sink` unless the answer is
-/// `Done` or `WriteFault`.
+/// `Done` or `WriteFault`. A fault ends it: `source` met none unless the answer is `ReadFault`, and `sink` none unless it is
+/// `WriteFault`.
 pub fn gossa<S: Source, K: Sink, E: Sink>(
     alloc: Global,
     words: &[String],
@@ -96,9 +95,7 @@ fn obey<S: Source, K: Sink>(
 {
     let text = match read_all(alloc, source, INPUT_LIMIT) {
         Ok(text) => text,
-        Err(ReadRefusal::ReadFault) => return Outcome::ReadFault,
-        Err(ReadRefusal::TooLong) => return Outcome::TooLong,
-        Err(ReadRefusal::NoMemory) => return Outcome::NoMemory,
+        Err(refusal) => return Outcome::from(refusal),
     };
     match make_output(alloc, command, text.as_slice()) {
         Ok(output) => match write_all(sink, output.as_slice()) {
@@ -174,8 +171,7 @@ fn read_text(alloc: Global, text: &[u8]) -> Result<SsaUnit, Outcome>
 {
     match read_unit(alloc, text) {
         Ok(unit) => Ok(unit),
-        Err(TextRefusal::NoMemory) => Err(Outcome::NoMemory),
-        Err(refusal) => Err(Outcome::Text(refusal)),
+        Err(refusal) => Err(Outcome::from(refusal)),
     }
 }
 
@@ -199,14 +195,7 @@ fn name_fault(unit: &SsaUnit, fault: Fault) -> Outcome
     ensures { Unchecked unit.now result }
 {
     let func = &unit.funcs.as_slice()[fault.func as usize];
-    match same_name(&func.sig.name) {
-        Ok(func) => Outcome::Check(CheckFault {
-            func,
-            check: fault.check,
-            at: fault.at,
-        }),
-        Err(NoMemory) => Outcome::NoMemory,
-    }
+    Outcome::of_fault(fault, same_name(&func.sig.name))
 }
 
 // The listings of a unit of narrow functions, and behind them its cases.

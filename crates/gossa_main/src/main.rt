@@ -2,41 +2,90 @@
 //! and the process ends with the number of the status that it answers.
 #![tactic(auto)]
 
-use gossa_base::{NoMemory, StdSink, StdSource};
-use gossa_core::{Outcome, gossa, tell};
-use std::env;
+ghost use Rattle.std.specs.Prelude.{◌≡◌, map, IfOk};
+ghost use Rattle.std.specs.Process.{exit_status};
+ghost use Rattle.std.specs.String.{string_bytes};
+ghost use Rattle.gossa_core.specs.Status.{number_of};
+ghost use Rattle.gossa_main.specs.Process.{words_given, Does, Ends};
+
+use gossa_base::{NoMemory, Sink, Source, StdSink, StdSource};
+use gossa_core::{Outcome, Status, gossa, tell};
+use std::alloc::Global;
+use std::env::Args;
 use std::io::ErrorKind;
 use std::process::ExitCode;
-use std::rt::Env;
+use std::{env, io};
 
 fn main(rt: HostRuntime) -> ExitCode {
+    let mut source = StdSource::new(rt.stdin());
+    let mut sink = StdSink::new(rt.stdout());
     let mut errs = StdSink::new(rt.stderr());
-    let status = match words(&rt) {
-        Ok(words) => {
-            let mut source = StdSource::new(rt.stdin());
-            let mut sink = StdSink::new(rt.stdout());
-            gossa(
-                rt.alloc(),
-                words.as_slice(),
-                &mut source,
-                &mut sink,
-                &mut errs,
-            )
-        }
-        Err(NoMemory) => {
-            tell(&mut errs, &Outcome::NoMemory);
-            Outcome::NoMemory.status()
-        }
-    };
-    ExitCode::from(status.number())
+    run(
+        rt.alloc(),
+        env::args(&rt),
+        &mut source,
+        &mut sink,
+        &mut errs,
+    )
 }
 
-// The words that the program is called with, behind its own name. A word that is no text is in no command, so then
-// there are none.
-fn words(rt: &(impl Env + AllocGlobal)) -> Result<Vec<String>, NoMemory> {
-    match env::args(rt) {
-        Ok(words) => Ok(words.skip(1).collect(rt.alloc())?),
-        Err(error) if error.kind() == ErrorKind::OutOfMemory => Err(NoMemory),
-        Err(_) => Ok(Vec::new(rt.alloc())),
+// Does what the words say that the process is called with, and answers what it ends with.
+fn run<S: Source, K: Sink, E: Sink>(
+    alloc: Global,
+    given: io::Result<Args>,
+    source: &mut S,
+    sink: &mut K,
+    errs: &mut E,
+) -> ExitCode
+    ensures { Ends (map string_bytes (words_given given))
+        (record { left = S.left source.old; read_faults = S.faults source.old; held = K.held sink.old; write_faults = K.faults sink.old })
+        (record { left = S.left source.new; read_faults = S.faults source.new; held = K.held sink.new; write_faults = K.faults sink.new })
+        (record { told = E.held errs.old; tell_faults = E.faults errs.old })
+        (record { told = E.held errs.new; tell_faults = E.faults errs.new })
+        (exit_status result) }
+{
+    exit_code(obey(alloc, given, source, sink, errs))
+}
+
+// Does what the words say that the process is called with, and answers how it went.
+fn obey<S: Source, K: Sink, E: Sink>(
+    alloc: Global,
+    given: io::Result<Args>,
+    source: &mut S,
+    sink: &mut K,
+    errs: &mut E,
+) -> Status
+    ensures { Does (map string_bytes (words_given given))
+        (record { left = S.left source.old; read_faults = S.faults source.old; held = K.held sink.old; write_faults = K.faults sink.old })
+        (record { left = S.left source.new; read_faults = S.faults source.new; held = K.held sink.new; write_faults = K.faults sink.new })
+        (record { told = E.held errs.old; tell_faults = E.faults errs.old })
+        (record { told = E.held errs.new; tell_faults = E.faults errs.new })
+        result }
+{
+    match command_words(alloc, given) {
+        Ok(words) => gossa(alloc, words.as_slice(), source, sink, errs),
+        Err(NoMemory) => {
+            tell(errs, &Outcome::NoMemory);
+            Outcome::NoMemory.status()
+        }
     }
+}
+
+// The words of the command: all words that the process is called with, but for its own name. A word that is no text is in
+// no command, so then there are none.
+fn command_words(alloc: Global, given: io::Result<Args>) -> Result<Vec<String>, NoMemory>
+    ensures { IfOk result (λ words. words.items ≡ words_given given) }
+{
+    match given {
+        Ok(words) => Ok(words.skip(1).collect(alloc)?),
+        Err(error) if error.kind() == ErrorKind::OutOfMemory => Err(NoMemory),
+        Err(_) => Ok(Vec::new(alloc)),
+    }
+}
+
+// What the process ends with: the number of the status.
+fn exit_code(status: Status) -> ExitCode
+    ensures { exit_status result ≡ number_of status }
+{
+    ExitCode::from(status.number())
 }
