@@ -32,6 +32,3 @@ mod shifts;
 
 pub use conditions::{holds, inverse};
 pub use evaluation::eval;
-
-#[cfg(test)]
-mod tests;

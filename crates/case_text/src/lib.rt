@@ -23,8 +23,3 @@ pub use forms::{CaseForm, CaseHead, SymLine};
 pub use print::{print_case, print_cases};
 pub use read::{CasePart, read_case_part, read_cases};
 pub use read_forms::read_case_form;
-
-#[cfg(test)]
-mod form_tests;
-#[cfg(test)]
-mod read_tests;

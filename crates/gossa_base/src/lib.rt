@@ -43,6 +43,3 @@ pub use sequence::{Bytes, Sequence};
 pub use std_streams::{StdSink, StdSource};
 pub use whole::{ReadRefusal, read_all, write_all};
 pub use words::{low, sext};
-
-#[cfg(test)]
-mod tests;

@@ -39,12 +39,3 @@ pub use status::{CheckFault, Outcome, Status};
 pub use telling::tell;
 pub use top::gossa;
 pub use words::{Command, read_words};
-
-#[cfg(test)]
-mod check_tests;
-#[cfg(test)]
-mod path_tests;
-#[cfg(test)]
-mod run_tests;
-#[cfg(test)]
-mod tests;

@@ -14,9 +14,6 @@ use gossa_base::ValueId;
 use ssa_ir::{Block, Func, Kind, Op, Scalar, Sig, Ty, Value, Width};
 use std::mem;
 
-#[cfg(test)]
-mod tests;
-
 /// The most parameters that a function may have.
 const MAX_PARAMS: usize = 16;
 

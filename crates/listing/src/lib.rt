@@ -23,6 +23,3 @@ pub mod print;
 pub use code::{Bits, Code, Lines, Listing, ListingList, Listings, Map, Maps, Names};
 pub use line::{Line, Note, Operands, Place, RegState};
 pub use print::print_listing;
-
-#[cfg(test)]
-mod tests;

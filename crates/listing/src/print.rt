@@ -12,8 +12,7 @@ ghost use Rattle.listing.specs.Text.{reg_text, reg_or_none, sym_text, stack_text
 use crate::code::{Code, Listing, Listings, Map};
 use crate::line::{Line, Note, Operands, Place};
 use gossa_base::{
-    Bytes, Name, NoMemory, Print, Sequence, ValueId, print_all, print_led, put, put_number,
-    put_signed,
+    Bytes, NoMemory, Print, Sequence, ValueId, print_all, put, put_number, put_signed,
 };
 use ssa_ir::{CondCode, Op, print_sigs};
 use std::alloc::Global;

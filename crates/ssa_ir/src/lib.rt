@@ -42,6 +42,3 @@ pub use op::{Arity, AuxRule, CondCode, Op, OpRow, Width, WidthPair, op_row};
 pub use role::{Role, role_of};
 pub use texts::print_sigs;
 pub use types::{Scalar, Scalars, Sig, Sigs, Ty};
-
-#[cfg(test)]
-mod tests;

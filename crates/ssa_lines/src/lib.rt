@@ -33,6 +33,3 @@ pub use tables::{NameSet, NumberSet};
 pub use types::{read_scalar, read_type};
 pub use values::read_value_line;
 pub use words::{Words, is_marked, is_same, without_first, without_last};
-
-#[cfg(test)]
-mod tests;

@@ -32,8 +32,3 @@ pub use print::{print_unit, print_unit_cases};
 pub use read::read_unit;
 pub use split::split_cases;
 pub use ssa_lines::{LimitKind, TextRefusal};
-
-#[cfg(test)]
-mod read_tests;
-#[cfg(test)]
-mod tests;

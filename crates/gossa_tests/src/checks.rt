@@ -1,0 +1,122 @@
+// Checks of units, and runs of those that meet them: each call once at its types.
+
+use crate::dumps::{CASES, MARKED};
+use crate::made::{checked_text, unit_of_text};
+use gossa_base::{Name, ValueId};
+use ssa_check::signatures::SignatureTable;
+use ssa_check::{At, Check, CheckRefusal, Fault, check};
+use ssa_ir::End;
+use ssa_meaning::run_case;
+use ssa_text::print_unit;
+use std::test::Fail;
+
+// The second function uses a value that stands in no block above it.
+const LATE: &str = "func f()\n\
+b1:\n\
+v1 = InitMem <mem>\n\
+Exit v1\n\
+func g()\n\
+b1:\n\
+v1 = InitMem <mem>\n\
+v2 = NilCheck <*byte> v3 v1\n\
+Plain -> b2\n\
+b2: <- b1\n\
+v3 = ConstNil <*byte>\n\
+Exit v1\n";
+
+#[test]
+fn gives_back_what_meets_all_checks(rt: HostRuntime) -> Result<(), Fail> {
+    let alloc = rt.alloc();
+    let unit = unit_of_text(alloc, MARKED)?;
+    let text = print_unit(alloc, &unit)?;
+    let Ok(checked) = check(alloc, unit) else {
+        return Err(Fail::new("a check fails"));
+    };
+    assert_eq!(rt; checked.unit().funcs.len(), 1);
+    let again = print_unit(alloc, &checked.into_unit())?;
+    assert_eq!(rt; again.as_slice(), text.as_slice());
+    Ok(())
+}
+
+#[test]
+fn gives_back_what_fails_a_check(rt: HostRuntime) -> Result<(), Fail> {
+    let alloc = rt.alloc();
+    let unit = unit_of_text(alloc, LATE)?;
+    let Err((refusal, unit)) = check(alloc, unit) else {
+        return Err(Fail::new("all checks are met"));
+    };
+    let fault = Fault {
+        func: 1,
+        check: Check::Undefined,
+        at: At::Value(ValueId(2)),
+    };
+    assert_eq!(rt; refusal, CheckRefusal::Failed(fault));
+    let text = print_unit(alloc, &unit)?;
+    assert_eq!(rt; text.as_slice(), LATE.as_bytes());
+    Ok(())
+}
+
+#[test]
+fn checks_have_numbers_and_names(rt: HostRuntime) {
+    for (check, number, name) in [
+        (Check::Entry, 1, "Entry"),
+        (Check::Edges, 2, "Edges"),
+        (Check::PhiArity, 3, "PhiArity"),
+        (Check::Arity, 4, "Arity"),
+        (Check::Types, 5, "Types"),
+        (Check::ArgOrInit, 6, "ArgOrInit"),
+        (Check::Callee, 7, "Callee"),
+        (Check::Memory, 8, "Memory"),
+        (Check::Cycle, 9, "Cycle"),
+        (Check::Undefined, 10, "Undefined"),
+        (Check::Control, 11, "Control"),
+    ] {
+        assert_eq!(rt; check.number(), number);
+        assert_eq!(rt; check.name(), name.as_bytes(), "for {name}");
+    }
+}
+
+#[test]
+fn signatures_are_looked_up(rt: HostRuntime) -> Result<(), Fail> {
+    let alloc = rt.alloc();
+    let unit = unit_of_text(alloc, MARKED)?;
+    let table = SignatureTable::new(alloc, &unit)?;
+    for (name, want) in [
+        (b"runtime.panicIndex".as_slice(), Some(2)),
+        (b"main.sum".as_slice(), Some(3)),
+        (b"main.su".as_slice(), None),
+    ] {
+        assert!(rt; !name.is_empty() && name.len() <= 100);
+        let name = Name::from_slice(alloc, name)?;
+        let found = table.sig(&unit, &name);
+        assert_eq!(rt; found.map(|sig| sig.params.len()), want);
+    }
+    Ok(())
+}
+
+#[test]
+fn a_case_shows_its_calls_and_its_end(rt: HostRuntime) -> Result<(), Fail> {
+    let alloc = rt.alloc();
+    let text = format!(in alloc; "{MARKED}{CASES}")?;
+    let checked = checked_text(alloc, text.as_str())?;
+    let cases = checked.unit().cases.as_slice();
+    assert_eq!(rt; cases.len(), 3);
+    let (first, last) = (&cases[0], &cases[2]);
+    assert!(rt; (first.func as usize) < checked.unit().funcs.len());
+    assert!(rt; (last.func as usize) < checked.unit().funcs.len());
+    let summed = run_case(alloc, &checked, first)?;
+    assert!(rt; summed.calls.is_empty());
+    let End::Returned(words, changed) = &summed.end else {
+        return Err(Fail::new("no return"));
+    };
+    assert_eq!(rt; words.as_slice(), [7].as_slice());
+    assert!(rt; changed.is_empty());
+    let outside = run_case(alloc, &checked, last)?;
+    assert_eq!(rt; outside.calls.len(), 1);
+    assert_eq!(rt;
+        outside.calls.as_slice()[0].args.as_slice(),
+        [2, 2].as_slice()
+    );
+    assert!(rt; matches!(outside.end, End::Exited(_)));
+    Ok(())
+}

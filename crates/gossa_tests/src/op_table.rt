@@ -1,0 +1,65 @@
+// The table of ops: names, rows, and what each op is to a run. Every op's name and row stand in `op_lines.rt` as well.
+
+use crate::made::text_of;
+use gossa_base::NoMemory;
+use ssa_ir::{Arity, AuxRule, Op, Role, Width, WidthPair, op_row, role_of};
+use std::test::Fail;
+
+#[test]
+fn ops_have_names(rt: HostRuntime) -> Result<(), Fail> {
+    for (op, want) in [
+        (Op::InitMem, "InitMem"),
+        (Op::Const(Width::W8), "Const8"),
+        (Op::DivU(Width::W32), "Div32u"),
+        (Op::RshU(Width::W16), "Rsh16Ux64"),
+        (Op::SignExt(WidthPair::W8W64), "SignExt8to64"),
+        (Op::Trunc(WidthPair::W16W32), "Trunc32to16"),
+        (Op::StaticLECall, "StaticLECall"),
+        (Op::Arm64ADD, "ADD"),
+        (Op::Arm64MOVBUload, "MOVBUload"),
+        (Op::Arm64GreaterEqualU, "GreaterEqualU"),
+    ] {
+        assert_eq!(rt;
+            text_of(rt.alloc(), &op)?.as_slice(),
+            want.as_bytes(),
+            "for {want}"
+        );
+        assert_eq!(rt; Op::named(want.as_bytes()), Some(op), "for {want}");
+    }
+    for unknown in ["", "Add", "Add64 ", "Hmul64", "add64", "zzz"] {
+        assert_eq!(rt; Op::named(unknown.as_bytes()), None, "for {unknown}");
+    }
+    Ok(())
+}
+
+#[test]
+fn ops_have_rows(rt: HostRuntime) {
+    let store = op_row(Op::Store);
+    assert_eq!(rt; store.arity, Arity::Exact(3));
+    assert_eq!(rt; store.aux, AuxRule::Elem);
+    assert!(rt; store.makes_mem && !store.reads_mem);
+    let phi = op_row(Op::Phi);
+    assert_eq!(rt; phi.arity, Arity::Any);
+    assert_eq!(rt; phi.aux, AuxRule::Nothing);
+    assert!(rt; op_row(Op::Arm64MOVDload).reads_mem);
+    assert_eq!(rt; op_row(Op::Mod(Width::W8)).aux, AuxRule::Dropped);
+}
+
+#[test]
+fn ops_have_roles(rt: HostRuntime) {
+    for (op, role, machine) in [
+        (Op::Add(Width::W8), Role::Computes, false),
+        (Op::Arg, Role::TakesParameter, false),
+        (Op::Addr, Role::TakesAddress, false),
+        (Op::Load, Role::Loads, false),
+        (Op::Store, Role::Stores, false),
+        (Op::NilCheck, Role::ChecksNil, false),
+        (Op::StaticLECall, Role::Calls, false),
+        (Op::Phi, Role::Rests, false),
+        (Op::Arm64ADD, Role::Computes, true),
+        (Op::Arm64SUB, Role::NotBuilt, true),
+    ] {
+        assert_eq!(rt; role_of(op), role);
+        assert_eq!(rt; op.is_machine(), machine);
+    }
+}
