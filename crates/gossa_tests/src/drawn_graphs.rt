@@ -129,12 +129,12 @@ fn the_lowest_name_on_a_loop_is_told(rt: HostRuntime) -> Result<(), Fail> {
     let Some(lowest) = lowest_on_loop(alloc, 4, &edges, &names)? else {
         return Err(Fail::new("no name"));
     };
-    assert_eq!(rt; (lowest.node, lowest.number), (2, 4));
+    assert!(rt; (lowest.node, lowest.number) == (2, 4));
     let none = lowest_on_loop(alloc, 4, &edges[..2], &names)?;
     assert!(rt; none.is_none());
     let graph = Graph::new(alloc, 4, &edges)?;
-    assert_eq!(rt; graph.len(), 4);
-    assert_eq!(rt; graph.targets(2), [1, 3].as_slice());
+    assert!(rt; graph.len() == 4);
+    assert!(rt; graph.targets(2) == [1, 3].as_slice());
     Ok(())
 }
 

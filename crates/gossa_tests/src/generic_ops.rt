@@ -32,7 +32,7 @@ fn sums_products_and_bits_of_generic_ops(rt: HostRuntime) {
         (Op::Xor(Width::W64), 0xc618444895b2d144),
         (Op::AddPtr, 0xc82e1b6dbb9c2a20),
     ] {
-        assert_eq!(rt; checksum(op, two_words()), want);
+        assert!(rt; checksum(op, two_words()) == want);
     }
 }
 
@@ -68,7 +68,7 @@ fn quotients_and_shifts_of_generic_ops(rt: HostRuntime) {
         (Op::Rsh(Width::W64), 0xb1db616de02c7a4d),
         (Op::RshU(Width::W64), 0x83d81c8d88a3caab),
     ] {
-        assert_eq!(rt; checksum(op, two_words()), want);
+        assert!(rt; checksum(op, two_words()) == want);
     }
 }
 
@@ -100,7 +100,7 @@ fn comparisons_of_generic_ops(rt: HostRuntime) {
         (Op::LessU(Width::W64), 0xbd598825038dafc8),
         (Op::LeqU(Width::W64), 0x1a384b0fa4780ee8),
     ] {
-        assert_eq!(rt; checksum(op, two_words()), want);
+        assert!(rt; checksum(op, two_words()) == want);
     }
 }
 
@@ -116,7 +116,7 @@ fn bools_pointers_and_bounds(rt: HostRuntime) {
         (Op::IsInBounds, 0xbd598825038dafc8),
         (Op::IsSliceInBounds, 0x1a384b0fa4780ee8),
     ] {
-        assert_eq!(rt; checksum(op, two_words()), want);
+        assert!(rt; checksum(op, two_words()) == want);
     }
 }
 
@@ -135,6 +135,6 @@ fn selects(rt: HostRuntime) {
         (Op::CondSelect, 0x7440edb267046800, by_bool),
         (Op::Arm64CSEL, 0xcc891009d50bb000, by_condition),
     ] {
-        assert_eq!(rt; checksum(op, over), want);
+        assert!(rt; checksum(op, over) == want);
     }
 }

@@ -21,8 +21,6 @@ mod base_values;
 #[cfg(test)]
 mod cases;
 #[cfg(test)]
-mod checked_sum;
-#[cfg(test)]
 mod checks;
 #[cfg(test)]
 mod checksums;
@@ -56,8 +54,6 @@ mod printing;
 mod row_reports;
 #[cfg(test)]
 mod row_texts;
-#[cfg(test)]
-mod shown;
 #[cfg(test)]
 mod small_texts;
 #[cfg(test)]

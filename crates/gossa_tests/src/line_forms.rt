@@ -1,5 +1,7 @@
 // Lines by themselves: each call that reads one, or a part of one, and the tables of what was read.
 
+ghost use Rattle.std.specs.Prelude.{◌≤◌, length};
+
 use gossa_base::{Name, NoMemory, ValueId};
 use ssa_ir::{Op, Scalar, Ty};
 use ssa_lines::{
@@ -7,6 +9,7 @@ use ssa_lines::{
     is_marked, is_name, is_same, read_form, read_integer, read_number, read_scalar, read_signature,
     read_type, read_value_line, without_first, without_last,
 };
+use std::alloc::Global;
 use std::test::Fail;
 
 #[test]
@@ -33,22 +36,22 @@ fn cuts_lines(rt: HostRuntime) {
 fn cuts_words(rt: HostRuntime) {
     let mut words = Words::of(b"  v1 =\tAdd64 ");
     assert!(rt; words.opens(b'v'));
-    assert_eq!(rt; words.next(), Some(b"v1".as_slice()));
-    assert_eq!(rt; words.next(), Some(b"=".as_slice()));
+    assert!(rt; words.next() == Some(b"v1".as_slice()));
+    assert!(rt; words.next() == Some(b"=".as_slice()));
     assert!(rt; !words.is_empty());
-    assert_eq!(rt; words.next(), Some(b"Add64".as_slice()));
+    assert!(rt; words.next() == Some(b"Add64".as_slice()));
     assert!(rt; words.is_empty());
-    assert_eq!(rt; words.next(), None);
+    assert!(rt; words.next() == None);
 }
 
 #[test]
 fn knows_words(rt: HostRuntime) {
     assert!(rt; is_same(b"sig", b"sig"));
     assert!(rt; !is_same(b"sig", b"sigs"));
-    assert_eq!(rt; without_first(b'<', b"<mem>"), Some(b"mem>".as_slice()));
-    assert_eq!(rt; without_first(b'[', b"<mem>"), None);
-    assert_eq!(rt; without_last(b'>', b"<mem>"), Some(b"<mem".as_slice()));
-    assert_eq!(rt; without_last(b'>', b""), None);
+    assert!(rt; without_first(b'<', b"<mem>") == Some(b"mem>".as_slice()));
+    assert!(rt; without_first(b'[', b"<mem>") == None);
+    assert!(rt; without_last(b'>', b"<mem>") == Some(b"<mem".as_slice()));
+    assert!(rt; without_last(b'>', b"") == None);
     assert!(rt; is_marked(b"(+6)"));
     assert!(rt; !is_marked(b"(+6"));
     assert!(rt; is_name(b"main.sum"));
@@ -73,7 +76,7 @@ fn reads_integers_and_numbers(rt: HostRuntime) {
         ("18446744073709551616", Some(Integer::TooLarge)),
         ("-0x5", None),
     ] {
-        assert_eq!(rt; read_integer(word.as_bytes()), want, "for {word}");
+        assert!(rt; read_integer(word.as_bytes()) == want, "for {word}");
     }
     for (word, want) in [
         ("v007", Some(Number::Fits(7))),
@@ -82,7 +85,7 @@ fn reads_integers_and_numbers(rt: HostRuntime) {
         ("v0", Some(Number::TooLarge)),
         ("b1", None),
     ] {
-        assert_eq!(rt; read_number(b'v', word.as_bytes()), want, "for {word}");
+        assert!(rt; read_number(b'v', word.as_bytes()) == want, "for {word}");
     }
 }
 
@@ -94,14 +97,14 @@ fn reads_types(rt: HostRuntime) -> Result<(), Fail> {
         ("*[3]main.T", Some(Scalar::Ptr)),
         ("mem", None),
     ] {
-        assert_eq!(rt; read_scalar(word.as_bytes()), want, "for {word}");
+        assert!(rt; read_scalar(word.as_bytes()) == want, "for {word}");
     }
     let memory = read_type(rt.alloc(), false, b"mem")?;
     assert!(rt; matches!(memory, Some(Ty::Mem)));
     let Some(Ty::Tuple(results)) = read_type(rt.alloc(), true, b"int,bool,mem")? else {
         return Err(Fail::new("no tuple"));
     };
-    assert_eq!(rt; results.as_slice(), [Scalar::I64, Scalar::Bool].as_slice());
+    assert!(rt; results.as_slice() == [Scalar::I64, Scalar::Bool].as_slice());
     assert!(rt; read_type(rt.alloc(), false, b"int65")?.is_none());
     Ok(())
 }
@@ -112,12 +115,9 @@ fn reads_signatures(rt: HostRuntime) -> Result<(), Fail> {
     let Some(sig) = read_signature(rt.alloc(), &mut words)? else {
         return Err(Fail::new("no signature"));
     };
-    assert_eq!(rt; sig.name.as_slice(), b"main.sum".as_slice());
-    assert_eq!(rt;
-        sig.params.as_slice(),
-        [Scalar::Ptr, Scalar::I64].as_slice()
-    );
-    assert_eq!(rt; sig.results.as_slice(), [Scalar::I64].as_slice());
+    assert!(rt; sig.name.as_slice() == b"main.sum".as_slice());
+    assert!(rt; sig.params.as_slice() == [Scalar::Ptr, Scalar::I64].as_slice());
+    assert!(rt; sig.results.as_slice() == [Scalar::I64].as_slice());
     Ok(())
 }
 
@@ -127,9 +127,9 @@ fn reads_lines_of_values(rt: HostRuntime) -> Result<(), Fail> {
     let Some(ValueLine::Known(value)) = read_value_line(rt.alloc(), &mut words)? else {
         return Err(Fail::new("no value"));
     };
-    assert_eq!(rt; value.id, ValueId(3));
-    assert_eq!(rt; value.op, Op::Arg);
-    assert_eq!(rt; value.aux, 1);
+    assert!(rt; value.id == ValueId(3));
+    assert!(rt; value.op == Op::Arg);
+    assert!(rt; value.aux == 1);
     let mut words = Words::of(b"v2 = Hmul64 <int64> v1 v1");
     let unknown = read_value_line(rt.alloc(), &mut words)?;
     assert!(rt; matches!(unknown, Some(ValueLine::UnknownOp)));
@@ -151,7 +151,7 @@ fn knows_forms(rt: HostRuntime) -> Result<(), Fail> {
         ("v11 = Lsh64x64 <int> [3] v7 v20", "bad"),
     ] {
         let form = read_form(rt.alloc(), line.as_bytes())?;
-        assert_eq!(rt; name_of(&form), want, "for {line}");
+        assert!(rt; name_of(&form) == want, "for {line}");
     }
     Ok(())
 }
@@ -182,12 +182,12 @@ fn numbers_are_looked_up(rt: HostRuntime) -> Result<(), Fail> {
             note_number(&mut numbers, n * 10_000 + 1)?;
         }
     }
-    assert_eq!(rt; numbers.len(), 100);
+    assert!(rt; numbers.len() == 100);
     assert!(rt; numbers.contains(1));
     assert!(rt; numbers.contains(990_001));
     assert!(rt; !numbers.contains(2));
     numbers.clear();
-    assert_eq!(rt; numbers.len(), 0);
+    assert!(rt; numbers.len() == 0);
     assert!(rt; !numbers.contains(1));
     numbers.insert(1)?;
     assert!(rt; numbers.contains(1));
@@ -204,23 +204,34 @@ fn note_number(numbers: &mut NumberSet, number: u32) -> Result<(), NoMemory> {
 
 #[test]
 fn names_are_looked_up(rt: HostRuntime) -> Result<(), Fail> {
-    let alloc = rt.alloc();
-    let mut names = NameSet::new(alloc);
-    note_name(&mut names, Name::from_slice(alloc, b"f")?)?;
-    note_name(&mut names, Name::from_slice(alloc, b"g")?)?;
-    note_name(&mut names, Name::from_slice(alloc, b"fg")?)?;
-    note_name(&mut names, Name::from_slice(alloc, b"f")?)?;
-    note_name(&mut names, Name::from_slice(alloc, b"gf")?)?;
-    assert_eq!(rt; names.len(), 4);
-    assert!(rt; names.contains(&Name::from_slice(alloc, b"gf")?));
-    assert!(rt; !names.contains(&Name::from_slice(alloc, b"h")?));
+    let mut names = NameSet::new(rt.alloc());
+    for name in ["f", "g", "fg", "f", "gf"] {
+        assert!(rt; !name.is_empty() && name.len() <= 100);
+        note_name(rt.alloc(), &mut names, name.as_bytes())?;
+    }
+    assert!(rt; names.len() == 4);
+    assert!(rt; has_name(rt.alloc(), &names, b"gf")?);
+    assert!(rt; !has_name(rt.alloc(), &names, b"h")?);
     Ok(())
 }
 
-// Puts the name in where it isn't there.
-fn note_name(names: &mut NameSet, name: Name) -> Result<(), NoMemory> {
+// Puts a name of 1 to 100 bytes in where it isn't there.
+fn note_name(alloc: Global, names: &mut NameSet, name: &[u8]) -> Result<(), NoMemory>
+    requires some { 1 ≤ length name.now }
+    requires few { length name.now ≤ 100 }
+{
+    let name = Name::from_slice(alloc, name)?;
     if !names.contains(&name) {
         names.insert(name)?;
     }
     Ok(())
+}
+
+// Whether a name of 1 to 100 bytes is there.
+fn has_name(alloc: Global, names: &NameSet, name: &[u8]) -> Result<bool, NoMemory>
+    requires some { 1 ≤ length name.now }
+    requires few { length name.now ≤ 100 }
+{
+    let name = Name::from_slice(alloc, name)?;
+    Ok(names.contains(&name))
 }

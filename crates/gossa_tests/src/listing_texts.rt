@@ -2,45 +2,20 @@
 
 ghost use Rattle.std.specs.Prelude.{◌≡◌, false, [], ◌∷◌, IfOk};
 
-use crate::made::sig;
+use crate::made::{sig, text_of};
 use gossa_base::{BlockId, Name, NoMemory, Sequence, ValueId};
-use listing::{
-    Bits, Code, Line, Listing, Listings, Map, Maps, Names, Note, Operands, Place, print_listing,
-};
-use ssa_ir::{CondCode, Op, Scalar};
+use listing::{Bits, Code, Line, Listing, Map, Maps, Names, Note, Place};
+use ssa_ir::{CondCode, Scalar};
 use std::alloc::Global;
 use std::test::Fail;
-
-#[test]
-fn prints_a_sum(rt: HostRuntime) -> Result<(), Fail> {
-    let alloc = rt.alloc();
-    let listings = unit(alloc, listing(alloc, sum_code(alloc)?, 0, 3))?;
-    let want = "sig g()\n\
-        TEXT f(int64, int64) (int64), frame=32, out=0, ptr=0, scalar=3, regs=24\n\
-        b1: R0=v2 R1=v3\n\
-        MOVD R0, 8(RSP) // spill v2\n\
-        MOVD R1, 16(RSP) // spill v3\n\
-        MOVD 8(RSP), R0 // load v2\n\
-        MOVD 16(RSP), R1 // load v3\n\
-        ADD R1, R0, R0 // v4\n\
-        MOVD R0, 24(RSP) // spill v4\n\
-        MOVD 24(RSP), R0 // results\n\
-        RET\n";
-    assert_eq!(rt;
-        print_listing(alloc, &listings)?.as_slice(),
-        want.as_bytes()
-    );
-    Ok(())
-}
 
 #[test]
 fn prints_each_other_form(rt: HostRuntime) -> Result<(), Fail> {
     let alloc = rt.alloc();
     let mut listing = listing(alloc, other_code(alloc)?, 1, 1);
     listing.maps = maps(alloc)?;
-    let listings = unit(alloc, listing)?;
-    let want = "sig g()\n\
-        TEXT k(int64, int64, int64, int64, int64, int64), frame=48, out=2, ptr=1, scalar=1, regs=4\n\
+    let want =
+        "TEXT k(int64, int64, int64, int64, int64, int64), frame=48, out=2, ptr=1, scalar=1, regs=4\n\
         MAP 0 args=- locals=1\n\
         MAP 1 args=10 locals=0\n\
         e2:\n\
@@ -59,24 +34,17 @@ fn prints_each_other_form(rt: HostRuntime) -> Result<(), Fail> {
         CALL g(SB), map=1 // v3\n\
         MOVD R27, R1 // edge\n\
         EXIT\n";
-    assert_eq!(rt;
-        print_listing(alloc, &listings)?.as_slice(),
-        want.as_bytes()
-    );
+    assert!(rt; text_of(alloc, &listing)?.as_slice() == want.as_bytes());
     Ok(())
 }
 
 #[test]
 fn prints_each_condition(rt: HostRuntime) -> Result<(), Fail> {
     let alloc = rt.alloc();
-    let listings = unit(alloc, listing(alloc, condition_code(alloc)?, 0, 0))?;
-    let want = "sig g()\n\
-        TEXT k(), frame=0, out=0, ptr=0, scalar=0, regs=24\n\
+    let listing = listing(alloc, condition_code(alloc)?, 0, 0);
+    let want = "TEXT k(), frame=0, out=0, ptr=0, scalar=0, regs=24\n\
         b3:\nBEQ b3\nBNE b3\nBLT b3\nBLE b3\nBGT b3\nBGE b3\nBLO b3\nBLS b3\nBHI b3\nBHS b3\n";
-    assert_eq!(rt;
-        print_listing(alloc, &listings)?.as_slice(),
-        want.as_bytes()
-    );
+    assert!(rt; text_of(alloc, &listing)?.as_slice() == want.as_bytes());
     Ok(())
 }
 
@@ -97,42 +65,12 @@ fn frames_have_sizes(rt: HostRuntime) -> Result<(), Fail> {
             leaf_code(alloc, out)?
         };
         let listing = listing(alloc, code, ptr, scalar);
-        assert_eq!(rt; listing.frame_size(), want, "{out}, {ptr}, {scalar}");
+        assert!(rt; listing.frame_size() == want, "{out}, {ptr}, {scalar}");
     }
     Ok(())
 }
 
-// A function that adds its parameters.
-fn sum_code(alloc: Global) -> Result<Code, NoMemory> {
-    let sig = sig(alloc, b"f", &[Scalar::I64, Scalar::I64], &[Scalar::I64])?;
-    let held = Vec::from_slice(alloc, &[(0, ValueId(2)), (1, ValueId(3))])?;
-    let operands = Operands {
-        dst: Some(0),
-        a: Some(0),
-        b: Some(1),
-    };
-    let lines = vec![in alloc;
-        Line::Label(id(1), Sequence::from_vec(held)),
-        Line::Move(Place::Frame(0), Place::Reg(0), Note::Spill(ValueId(2))),
-        Line::Move(Place::Frame(1), Place::Reg(1), Note::Spill(ValueId(3))),
-        Line::Move(Place::Reg(0), Place::Frame(0), Note::Load(ValueId(2))),
-        Line::Move(Place::Reg(1), Place::Frame(1), Note::Load(ValueId(3))),
-        Line::Op(Op::Arm64ADD, 0, operands, Note::Value(ValueId(4))),
-        Line::Move(Place::Frame(2), Place::Reg(0), Note::Spill(ValueId(4))),
-        Line::Move(Place::Reg(0), Place::Frame(2), Note::Results),
-        Line::Ret,
-    ]?;
-    Ok(Code {
-        sig,
-        regs: 24,
-        syms: Sequence::new(alloc),
-        lines: Sequence::from_vec(lines),
-        out: 0,
-        arg_words: 0,
-    })
-}
-
-// A function with a line of each form that the sum has not.
+// A function with a line of each form that no listing of a sum has.
 fn other_code(alloc: Global) -> Result<Code, NoMemory> {
     let sig = sig(alloc, b"k", &[Scalar::I64; 6], &[])?;
     let split = BlockId { split: true, n: 2 };
@@ -259,13 +197,4 @@ fn listing(alloc: Global, code: Code, ptr: u32, scalar: u32) -> Listing {
         scalar,
         maps: Sequence::new(alloc),
     }
-}
-
-// A unit that calls g and has one function.
-fn unit(alloc: Global, listing: Listing) -> Result<Listings, NoMemory> {
-    let mut sigs = Sequence::new(alloc);
-    sigs.push(sig(alloc, b"g", &[], &[])?)?;
-    let mut funcs = Sequence::new(alloc);
-    funcs.push(listing)?;
-    Ok(Listings { sigs, funcs })
 }

@@ -22,7 +22,7 @@ fn evaluates_worked_rows(rt: HostRuntime) {
         (Op::Arm64CMPconst, 64, 64, 0, 6),
         (Op::Arm64CMPconst, 64, least, 0, 3),
     ] {
-        assert_eq!(rt; eval(op, aux, a, b, 0, 0), want, "for {aux} {a} {b}");
+        assert!(rt; eval(op, aux, a, b, 0, 0) == want, "for {aux} {a} {b}");
     }
 }
 
@@ -70,7 +70,7 @@ fn machine_ops_of_two(rt: HostRuntime) {
         (Op::Arm64SRL, 0xa16307d8066ae559),
         (Op::Arm64SRA, 0xac6f9c526adff699),
     ] {
-        assert_eq!(rt; checksum(op, two_words()), want);
+        assert!(rt; checksum(op, two_words()) == want);
     }
 }
 
@@ -115,7 +115,7 @@ fn ops_of_one_word(rt: HostRuntime) {
         (Op::Arm64MOVWreg, 0x012c562bed6f57aa),
         (Op::Arm64MOVWUreg, 0xd99c5ef4ed6f57aa),
     ] {
-        assert_eq!(rt; checksum(op, one_word()), want);
+        assert!(rt; checksum(op, one_word()) == want);
     }
 }
 
@@ -137,7 +137,7 @@ fn ops_with_a_number(rt: HostRuntime) {
         (Op::Arm64CMPWconst, 0x7b4edd5206291719),
         (Op::Arm64TSTWconst, 0x9effa5d7aa7eb248),
     ] {
-        assert_eq!(rt; checksum(op, over), want);
+        assert!(rt; checksum(op, over) == want);
     }
 }
 
@@ -153,7 +153,7 @@ fn shifts_by_a_number(rt: HostRuntime) {
         (Op::Arm64SRLconst, 0xae3bb519db725a6e),
         (Op::Arm64SRAconst, 0x050d1efbdbbd1c36),
     ] {
-        assert_eq!(rt; checksum(op, over), want);
+        assert!(rt; checksum(op, over) == want);
     }
 }
 
@@ -170,7 +170,7 @@ fn constants(rt: HostRuntime) {
         (Op::Const(Width::W64), 0xd6a24df2ed6f57aa),
         (Op::Arm64MOVDconst, 0xd6a24df2ed6f57aa),
     ] {
-        assert_eq!(rt; checksum(op, over), want);
+        assert!(rt; checksum(op, over) == want);
     }
 }
 
@@ -192,7 +192,7 @@ fn conditions_of_flags(rt: HostRuntime) {
         (Op::Arm64GreaterThanU, 0x31de6d4d7abdb468),
         (Op::Arm64GreaterEqualU, 0xe4438ab41a47f650),
     ] {
-        assert_eq!(rt; checksum(op, over), want);
+        assert!(rt; checksum(op, over) == want);
     }
 }
 
@@ -207,6 +207,6 @@ fn constants_without_a_word(rt: HostRuntime) {
         (Op::ConstNil, 0x0000000000000000, zeros()),
         (Op::SB, 0x0000000000000000, zeros()),
     ] {
-        assert_eq!(rt; checksum(op, over), want);
+        assert!(rt; checksum(op, over) == want);
     }
 }

@@ -6,8 +6,8 @@ ghost use Rattle.ssa_ir.specs.WellFormed.{WellFormed};
 use gossa_base::{BlockId, Name, NoMemory, Print, Sequence, ValueId};
 use ssa_check::{Checked, check};
 use ssa_ir::{
-    Args, Block, BlockIds, Blocks, Case, Func, Junk, Kind, Op, Piece, Reply, Scalar, Sig, SsaUnit,
-    Ty, Value, Words,
+    Args, Block, BlockIds, Case, Func, Junk, Kind, Op, Piece, Scalar, Sig, SsaUnit, Ty, Value,
+    Words,
 };
 use ssa_text::read_unit;
 use std::alloc::Global;
@@ -23,16 +23,6 @@ pub(crate) fn case(alloc: Global, bound: u32, args: &[u64]) -> Result<Case, NoMe
         mem: Sequence::new(alloc),
         junk: no_junk(alloc),
         replies: Sequence::new(alloc),
-    })
-}
-
-// A reply of these result words.
-pub(crate) fn reply(alloc: Global, results: &[u64]) -> Result<Reply, NoMemory> {
-    Ok(Reply {
-        words: words(alloc, results)?,
-        writes: Sequence::new(alloc),
-        junk: no_junk(alloc),
-        clobber: 0,
     })
 }
 
@@ -63,11 +53,6 @@ pub(crate) fn word(
     args: &[u32],
 ) -> Result<Value, NoMemory> {
     value(alloc, id, op, Ty::One(Scalar::I64), aux, args)
-}
-
-// A value of type bool with no name and the number 0.
-pub(crate) fn truth(alloc: Global, id: u32, op: Op, args: &[u32]) -> Result<Value, NoMemory> {
-    value(alloc, id, op, Ty::One(Scalar::Bool), 0, args)
 }
 
 // A value with no name.
@@ -139,24 +124,6 @@ pub(crate) fn sig(
         name: Name::from_slice(alloc, name)?,
         params: Sequence::from_vec(Vec::from_slice(alloc, params)?),
         results: Sequence::from_vec(Vec::from_slice(alloc, results)?),
-    })
-}
-
-// A unit that calls one function and has one.
-pub(crate) fn unit(
-    alloc: Global,
-    outside: Sig,
-    sig: Sig,
-    blocks: Blocks,
-) -> Result<SsaUnit, NoMemory> {
-    let mut sigs = Sequence::new(alloc);
-    sigs.push(outside)?;
-    let mut funcs = Sequence::new(alloc);
-    funcs.push(Func { sig, blocks })?;
-    Ok(SsaUnit {
-        sigs,
-        funcs,
-        cases: Sequence::new(alloc),
     })
 }
 

@@ -2,7 +2,7 @@
 
 use crate::made::{block, unit_of_block, word};
 use gossa_base::{Name, NoMemory, ValueId};
-use ssa_ir::{Arity, Kind, Op, Scalar, Value, op_row};
+use ssa_ir::{Arity, Block, Kind, Op, Scalar, Value, op_row};
 use ssa_text::print_unit;
 use std::alloc::Global;
 use std::test::Fail;
@@ -212,24 +212,24 @@ CALLstatic <int64> {g} v1 v2 v3 v4";
 #[test]
 fn prints_every_op(rt: HostRuntime) -> Result<(), Fail> {
     let alloc = rt.alloc();
+    assert!(rt; OP_LINES.lines().count() == 198);
     let mut block = block(alloc, 1, &[], Kind::Plain, None, &[1])?;
     for line in OP_LINES.lines() {
-        if let Some(name) = line.split(' ').next() {
-            if let Some(op) = Op::named(name.as_bytes()) {
-                block.values.push(full_value(alloc, op)?)?;
-            }
-        }
+        push_op(alloc, &mut block, line)?;
     }
-    let mut want = format!(in alloc; "func f()\nb1:\n")?;
-    for line in OP_LINES.lines() {
-        want.push_str("v7 = ")?;
-        want.push_str(line)?;
-        want.push_str("\n")?;
-    }
-    want.push_str("Plain -> b1\n")?;
     let unit = unit_of_block(alloc, block)?;
-    assert_eq!(rt; OP_LINES.lines().count(), 198);
-    assert_eq!(rt; print_unit(alloc, &unit)?.as_slice(), want.as_bytes());
+    let lines = OP_LINES.replace(alloc, "\n", "\nv7 = ")?;
+    let want = format!(in alloc; "func f()\nb1:\nv7 = {lines}\nPlain -> b1\n")?;
+    assert!(rt; print_unit(alloc, &unit)?.as_slice() == want.as_bytes());
+    Ok(())
+}
+
+// A value of the op that this line names.
+fn push_op(alloc: Global, block: &mut Block, line: &str) -> Result<(), NoMemory> {
+    let name = line.split(' ').next().unwrap_or("");
+    if let Some(op) = Op::named(name.as_bytes()) {
+        block.values.push(full_value(alloc, op)?)?;
+    }
     Ok(())
 }
 

@@ -19,15 +19,14 @@ fn ops_have_names(rt: HostRuntime) -> Result<(), Fail> {
         (Op::Arm64MOVBUload, "MOVBUload"),
         (Op::Arm64GreaterEqualU, "GreaterEqualU"),
     ] {
-        assert_eq!(rt;
-            text_of(rt.alloc(), &op)?.as_slice(),
-            want.as_bytes(),
+        assert!(rt;
+            text_of(rt.alloc(), &op)?.as_slice() == want.as_bytes(),
             "for {want}"
         );
-        assert_eq!(rt; Op::named(want.as_bytes()), Some(op), "for {want}");
+        assert!(rt; Op::named(want.as_bytes()) == Some(op), "for {want}");
     }
     for unknown in ["", "Add", "Add64 ", "Hmul64", "add64", "zzz"] {
-        assert_eq!(rt; Op::named(unknown.as_bytes()), None, "for {unknown}");
+        assert!(rt; Op::named(unknown.as_bytes()) == None, "for {unknown}");
     }
     Ok(())
 }
@@ -35,14 +34,14 @@ fn ops_have_names(rt: HostRuntime) -> Result<(), Fail> {
 #[test]
 fn ops_have_rows(rt: HostRuntime) {
     let store = op_row(Op::Store);
-    assert_eq!(rt; store.arity, Arity::Exact(3));
-    assert_eq!(rt; store.aux, AuxRule::Elem);
+    assert!(rt; store.arity == Arity::Exact(3));
+    assert!(rt; store.aux == AuxRule::Elem);
     assert!(rt; store.makes_mem && !store.reads_mem);
     let phi = op_row(Op::Phi);
-    assert_eq!(rt; phi.arity, Arity::Any);
-    assert_eq!(rt; phi.aux, AuxRule::Nothing);
+    assert!(rt; phi.arity == Arity::Any);
+    assert!(rt; phi.aux == AuxRule::Nothing);
     assert!(rt; op_row(Op::Arm64MOVDload).reads_mem);
-    assert_eq!(rt; op_row(Op::Mod(Width::W8)).aux, AuxRule::Dropped);
+    assert!(rt; op_row(Op::Mod(Width::W8)).aux == AuxRule::Dropped);
 }
 
 #[test]
@@ -59,7 +58,7 @@ fn ops_have_roles(rt: HostRuntime) {
         (Op::Arm64ADD, Role::Computes, true),
         (Op::Arm64SUB, Role::NotBuilt, true),
     ] {
-        assert_eq!(rt; role_of(op), role);
-        assert_eq!(rt; op.is_machine(), machine);
+        assert!(rt; role_of(op) == role);
+        assert!(rt; op.is_machine() == machine);
     }
 }

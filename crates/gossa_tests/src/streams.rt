@@ -13,15 +13,14 @@ fn reads_all_up_to_the_limit(rt: HostRuntime) -> Result<(), Fail> {
         assert!(rt; piece >= 1);
         let mut source = MemSource::new(rt.alloc(), text, piece, &[])?;
         let bytes = read_all(rt.alloc(), &mut source, limit)?;
-        assert_eq!(rt; bytes.as_slice(), text, "piece {piece}, limit {limit}");
+        assert!(rt; bytes.as_slice() == text, "piece {piece}, limit {limit}");
     }
     for (piece, limit) in [(1, 5), (4, 5), (9, 0)] {
         assert!(rt; piece >= 1);
         let mut source = MemSource::new(rt.alloc(), text, piece, &[])?;
         let refusal = read_all(rt.alloc(), &mut source, limit).err();
-        assert_eq!(rt;
-            refusal,
-            Some(ReadRefusal::TooLong),
+        assert!(rt;
+            refusal == Some(ReadRefusal::TooLong),
             "piece {piece}, limit {limit}"
         );
     }
@@ -42,29 +41,29 @@ fn reads_the_empty_input(rt: HostRuntime) -> Result<(), Fail> {
 fn tells_a_fault_while_reading(rt: HostRuntime) -> Result<(), Fail> {
     let mut source = MemSource::new(rt.alloc(), b"abcdef", 4, &[2])?;
     let refusal = read_all(rt.alloc(), &mut source, 6).err();
-    assert_eq!(rt; refusal, Some(ReadRefusal::ReadFault));
+    assert!(rt; refusal == Some(ReadRefusal::ReadFault));
     // the failed call took nothing
     let rest = read_all(rt.alloc(), &mut source, 6)?;
-    assert_eq!(rt; rest.as_slice(), b"ef".as_slice());
+    assert!(rt; rest.as_slice() == b"ef".as_slice());
     Ok(())
 }
 
 #[test]
 fn writes_all_or_a_prefix(rt: HostRuntime) -> Result<(), Fail> {
     let mut whole = MemSink::new(rt.alloc(), 10, 2, &[])?;
-    assert_eq!(rt; write_all(&mut whole, b"abcdef"), Ok(()));
-    assert_eq!(rt; whole.held(), b"abcdef".as_slice());
-    assert_eq!(rt; write_all(&mut whole, b""), Ok(()));
-    assert_eq!(rt; write_all(&mut whole, b"ghij"), Ok(()));
-    assert_eq!(rt; whole.held(), b"abcdefghij".as_slice());
+    assert!(rt; write_all(&mut whole, b"abcdef") == Ok(()));
+    assert!(rt; whole.held() == b"abcdef".as_slice());
+    assert!(rt; write_all(&mut whole, b"") == Ok(()));
+    assert!(rt; write_all(&mut whole, b"ghij") == Ok(()));
+    assert!(rt; whole.held() == b"abcdefghij".as_slice());
 
     let mut failing = MemSink::new(rt.alloc(), 10, 2, &[3])?;
-    assert_eq!(rt; write_all(&mut failing, b"abcdef"), Err(Failed));
-    assert_eq!(rt; failing.held(), b"abcd".as_slice());
+    assert!(rt; write_all(&mut failing, b"abcdef") == Err(Failed));
+    assert!(rt; failing.held() == b"abcd".as_slice());
 
     let mut small = MemSink::new(rt.alloc(), 3, 2, &[])?;
-    assert_eq!(rt; write_all(&mut small, b"abcde"), Err(Failed));
-    assert_eq!(rt; small.held(), b"abc".as_slice());
+    assert!(rt; write_all(&mut small, b"abcde") == Err(Failed));
+    assert!(rt; small.held() == b"abc".as_slice());
     Ok(())
 }
 
@@ -72,29 +71,29 @@ fn writes_all_or_a_prefix(rt: HostRuntime) -> Result<(), Fail> {
 fn a_source_fails_at_its_listed_calls(rt: HostRuntime) -> Result<(), Fail> {
     let mut source = MemSource::new(rt.alloc(), b"abcde", 2, &[4, 1])?;
     let mut buffer = [b'-'; 3];
-    assert_eq!(rt; source.read(&mut buffer), Err(Failed));
-    assert_eq!(rt; source.read(&mut buffer), Ok(2));
-    assert_eq!(rt; buffer, *b"ab-");
-    assert_eq!(rt; source.read(&mut buffer[..1]), Ok(1));
-    assert_eq!(rt; buffer, *b"cb-");
-    assert_eq!(rt; source.read(&mut buffer), Err(Failed));
-    assert_eq!(rt; source.read(&mut buffer), Ok(2));
-    assert_eq!(rt; buffer, *b"de-");
-    assert_eq!(rt; source.read(&mut buffer), Ok(0));
+    assert!(rt; source.read(&mut buffer) == Err(Failed));
+    assert!(rt; source.read(&mut buffer) == Ok(2));
+    assert!(rt; buffer == *b"ab-");
+    assert!(rt; source.read(&mut buffer[..1]) == Ok(1));
+    assert!(rt; buffer == *b"cb-");
+    assert!(rt; source.read(&mut buffer) == Err(Failed));
+    assert!(rt; source.read(&mut buffer) == Ok(2));
+    assert!(rt; buffer == *b"de-");
+    assert!(rt; source.read(&mut buffer) == Ok(0));
     Ok(())
 }
 
 #[test]
 fn a_sink_fails_at_its_listed_calls(rt: HostRuntime) -> Result<(), Fail> {
     let mut sink = MemSink::new(rt.alloc(), 5, 3, &[2])?;
-    assert_eq!(rt; sink.write(b"abcde"), Ok(3));
-    assert_eq!(rt; sink.write(b"de"), Err(Failed));
-    assert_eq!(rt; sink.held(), b"abc".as_slice());
-    assert_eq!(rt; sink.write(b"d"), Ok(1));
-    assert_eq!(rt; sink.write(b"ef"), Ok(1));
-    assert_eq!(rt; sink.held(), b"abcde".as_slice());
-    assert_eq!(rt; sink.write(b"f"), Err(Failed));
-    assert_eq!(rt; sink.held(), b"abcde".as_slice());
+    assert!(rt; sink.write(b"abcde") == Ok(3));
+    assert!(rt; sink.write(b"de") == Err(Failed));
+    assert!(rt; sink.held() == b"abc".as_slice());
+    assert!(rt; sink.write(b"d") == Ok(1));
+    assert!(rt; sink.write(b"ef") == Ok(1));
+    assert!(rt; sink.held() == b"abcde".as_slice());
+    assert!(rt; sink.write(b"f") == Err(Failed));
+    assert!(rt; sink.held() == b"abcde".as_slice());
     Ok(())
 }
 
@@ -102,12 +101,12 @@ fn a_sink_fails_at_its_listed_calls(rt: HostRuntime) -> Result<(), Fail> {
 fn the_standard_streams_answer(rt: HostRuntime) -> Result<(), Fail> {
     // a test's own input is empty
     let mut source = StdSource::new(rt.stdin());
-    assert_eq!(rt; source.read(&mut [0; 4]), Ok(0));
+    assert!(rt; source.read(&mut [0; 4]) == Ok(0));
     let bytes = read_all(rt.alloc(), &mut source, 0)?;
     assert!(rt; bytes.is_empty());
     let mut out = StdSink::new(rt.stdout());
-    assert_eq!(rt; write_all(&mut out, b"a whole line\n"), Ok(()));
+    assert!(rt; write_all(&mut out, b"a whole line\n") == Ok(()));
     let mut errors = StdSink::new(rt.stderr());
-    assert_eq!(rt; write_all(&mut errors, b"a whole line\n"), Ok(()));
+    assert!(rt; write_all(&mut errors, b"a whole line\n") == Ok(()));
     Ok(())
 }

@@ -10,7 +10,7 @@ use std::test::Fail;
 #[test]
 fn reads_the_marks_of_a_dump(rt: HostRuntime) -> Result<(), Fail> {
     let alloc = rt.alloc();
-    assert_eq!(rt; canonical(alloc, MARKED)?.as_slice(), CANONICAL.as_bytes());
+    assert!(rt; canonical(alloc, MARKED)?.as_slice() == CANONICAL.as_bytes());
     Ok(())
 }
 
@@ -20,9 +20,12 @@ fn reads_cases_behind_functions(rt: HostRuntime) -> Result<(), Fail> {
     let text = format!(in alloc; "{MARKED}{CASES}")?;
     let want = format!(in alloc; "{CANONICAL}{CANONICAL_CASES}")?;
     let once = canonical(alloc, text.as_str())?;
-    assert_eq!(rt; once.as_slice(), want.as_bytes());
+    assert!(rt; once.as_slice() == want.as_bytes());
     let again = canonical(alloc, want.as_str())?;
-    assert_eq!(rt; again.as_slice(), want.as_bytes(), "printed and read back");
+    assert!(rt;
+        again.as_slice() == want.as_bytes(),
+        "printed and read back"
+    );
     Ok(())
 }
 
@@ -33,7 +36,7 @@ fn prints_cases_alone(rt: HostRuntime) -> Result<(), Fail> {
     let unit = unit_of_text(alloc, text.as_str())?;
     let mut cases = Vec::new(alloc);
     print_unit_cases(&mut cases, unit.funcs.as_slice(), unit.cases.as_slice())?;
-    assert_eq!(rt; cases.as_slice(), CANONICAL_CASES.as_bytes());
+    assert!(rt; cases.as_slice() == CANONICAL_CASES.as_bytes());
     Ok(())
 }
 
@@ -70,9 +73,8 @@ fn reads_free_spellings(rt: HostRuntime) -> Result<(), Fail> {
             "func f()\nb1:\nv1 = MakeResult <mem> v1\nRet v1\nfunc g()\nb1:\nv1 = Copy <mem> v1\nRet v1\n",
         ),
     ] {
-        assert_eq!(rt;
-            canonical(alloc, text)?.as_slice(),
-            want.as_bytes(),
+        assert!(rt;
+            canonical(alloc, text)?.as_slice() == want.as_bytes(),
             "for {text}"
         );
     }
@@ -97,7 +99,7 @@ fn tells_the_first_fault(rt: HostRuntime) {
     ] {
         assert!(rt; text.len() <= 1000);
         let refusal = read_unit(rt.alloc(), text.as_bytes()).err();
-        assert_eq!(rt; refusal, Some(want), "for {text}");
+        assert!(rt; refusal == Some(want), "for {text}");
     }
 }
 
@@ -111,7 +113,10 @@ fn splits_at_the_first_case(rt: HostRuntime) {
         ("\n \tcase", 1, 2),
         ("cases\n// case\ncase", 14, 3),
     ] {
-        assert_eq!(rt; split_cases(text.as_bytes()), (offset, line), "for {text}");
+        assert!(rt;
+            split_cases(text.as_bytes()) == (offset, line),
+            "for {text}"
+        );
     }
 }
 
