@@ -1,8 +1,10 @@
-// A unit that no text gives, and its text: a split block, ops of the machine, and values and cases that lack a part.
+// What no text gives, and its text: a split block, ops of the machine, values and cases that lack a part, and a run that
+// is stuck.
 
 use crate::made::{block, case, piece, unit_of_block, value};
-use gossa_base::NoMemory;
-use ssa_ir::{Block, Kind, Op, Scalar, SsaUnit, Ty};
+use gossa_base::{Name, NoMemory, Sequence};
+use gossa_core::print_shown;
+use ssa_ir::{Block, End, Kind, Op, Scalar, Shown, SsaUnit, Ty};
 use ssa_text::print_unit;
 use std::alloc::Global;
 use std::test::Fail;
@@ -52,5 +54,18 @@ fn push_values(alloc: Global, block: &mut Block) -> Result<(), NoMemory> {
         };
         block.values.push(value(alloc, number, op, ty, aux, args)?)?;
     }
+    Ok(())
+}
+
+#[test]
+fn a_stuck_run_has_a_text(rt: HostRuntime) -> Result<(), Fail> {
+    let alloc = rt.alloc();
+    let name = Name::from_slice(alloc, b"f")?;
+    let shown = Shown {
+        calls: Sequence::new(alloc),
+        end: End::Stuck,
+    };
+    let text = print_shown(alloc, &name, 3, &Sequence::new(alloc), &shown)?;
+    assert!(rt; text.as_slice() == b"case f 3\nstuck\n".as_slice());
     Ok(())
 }
