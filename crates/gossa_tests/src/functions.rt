@@ -38,6 +38,9 @@ fn looked_up(alloc: Global, unit: &SsaUnit, name: &[u8]) -> Result<(usize, Optio
 {
     let name = Name::from_slice(alloc, name)?;
     let params = unit.sig_of(&name).map_or(100, |sig| sig.params.len());
+    if unit.funcs.len() > 1000 {
+        return Ok((params, None));
+    }
     Ok((params, unit.func_named(&name)))
 }
 
