@@ -1,5 +1,5 @@
 -- The word of a signed quotient.
-use Rattle.std.proofs.Common.{◌≡◌, ℕ, zero, suc, ◌-◌, ◌%◌, ◌^◌, ◌/◌, ◌≤◌, ℤ, pos, negsuc, neg_ℤ, unsigned_abs, int_div, refl, subst, sym, ap, ◌∙◌, arith, FitsSigned, w64}
+use Rattle.std.proofs.Common.{◌≡◌, ℕ, zero, suc, ◌-◌, ◌^◌, ◌/◌, ◌≤◌, ℤ, pos, negsuc, neg_ℤ, unsigned_abs, int_div, refl, subst, sym, ap, ◌∙◌, arith, FitsSigned, w64}
 use Rattle.std.specs.Int.{cast_signed, cast_unsigned, int_wrapping_div}
 use Rattle.std.proofs.lemmas.Int.{of_z-to_z, to_z-of_z}
 use Rattle.std.proofs.Math.Nat.{div-le_self}

@@ -96,23 +96,25 @@ fn signatures_are_looked_up(rt: HostRuntime) -> Result<(), Fail> {
 }
 
 #[test]
-fn a_case_shows_its_calls(rt: HostRuntime) -> Result<(), Fail> {
+fn a_case_shows_its_calls_and_its_end(rt: HostRuntime) -> Result<(), Fail> {
     let alloc = rt.alloc();
     let text = format!(in alloc; "{MARKED}{CASES}")?;
     let checked = checked_text(alloc, text.as_str())?;
-    assert!(rt; calls_shown(alloc, &checked, 0)? == 0);
-    assert!(rt; calls_shown(alloc, &checked, 2)? == 1);
+    assert!(rt; shown_of(alloc, &checked, 0)? == (0, Some(7)));
+    assert!(rt; shown_of(alloc, &checked, 2)? == (1, None));
     Ok(())
 }
 
-// How many calls a case of this number shows, which ends.
-fn calls_shown(alloc: Global, checked: &Checked, number: usize) -> Result<usize, Fail> {
+// How many calls the case of this number shows, and the first word that it returns, none where it exits.
+fn shown_of(alloc: Global, checked: &Checked, number: usize) -> Result<(usize, Option<u64>), Fail> {
     let unit = checked.unit();
     match unit.cases.as_slice().get(number) {
         Some(case) if (case.func as usize) < unit.funcs.len() => {
             let shown = run_case(alloc, checked, case)?;
-            match shown.end {
-                End::Returned(..) | End::Exited(_) => Ok(shown.calls.len()),
+            let calls = shown.calls.len();
+            match &shown.end {
+                End::Returned(words, _) => Ok((calls, words.as_slice().first().copied())),
+                End::Exited(_) => Ok((calls, None)),
                 _ => Err(Fail::new("no end")),
             }
         }

@@ -1,6 +1,6 @@
 // Functions and units as passes see them: look-ups, arguments, and copies.
 
-ghost use Rattle.std.specs.Prelude.{◌≤◌, length};
+ghost use Rattle.std.specs.Prelude.{◌≡◌, ◌≤◌, length};
 
 use crate::dumps::{CANONICAL, MARKED};
 use crate::made::unit_of_text;
@@ -24,23 +24,25 @@ const IDS: [ValueId; 6] = [
 fn looks_up_what_is_there(rt: HostRuntime) -> Result<(), Fail> {
     let alloc = rt.alloc();
     let unit = unit_of_text(alloc, MARKED)?;
-    assert!(rt; looked_up(alloc, &unit, b"runtime.panicIndex")? == (2, None));
-    assert!(rt; looked_up(alloc, &unit, b"main.sum")? == (3, Some(0)));
-    assert!(rt; looked_up(alloc, &unit, b"main.su")? == (100, None));
+    assert!(rt; unit.funcs.len() == 1);
+    assert!(rt; looked_up(alloc, &unit, b"runtime.panicIndex")? == (Some(2), None));
+    assert!(rt; looked_up(alloc, &unit, b"main.sum")? == (Some(3), Some(0)));
+    assert!(rt; looked_up(alloc, &unit, b"main.su")? == (None, None));
     Ok(())
 }
 
-// How many parameters the signature of a name of 1 to 100 bytes has, 100 where there is none; and the number of its
-// function.
-fn looked_up(alloc: Global, unit: &SsaUnit, name: &[u8]) -> Result<(usize, Option<u32>), NoMemory>
+// How many parameters the signature of a name of 1 to 100 bytes has, and the number of its function, in a unit of one.
+fn looked_up(
+    alloc: Global,
+    unit: &SsaUnit,
+    name: &[u8],
+) -> Result<(Option<usize>, Option<u32>), NoMemory>
+    requires one { length unit.now.funcs ≡ 1 }
     requires some { 1 ≤ length name.now }
     requires few { length name.now ≤ 100 }
 {
     let name = Name::from_slice(alloc, name)?;
-    let params = unit.sig_of(&name).map_or(100, |sig| sig.params.len());
-    if unit.funcs.len() > 1000 {
-        return Ok((params, None));
-    }
+    let params = unit.sig_of(&name).map(|sig| sig.params.len());
     Ok((params, unit.func_named(&name)))
 }
 
@@ -73,6 +75,7 @@ fn arguments_grow(rt: HostRuntime) -> Result<(), Fail> {
         args.push(*id)?;
     }
     assert!(rt; args.as_slice() == IDS.as_slice());
+    assert!(rt; args.clone()?.as_slice() == IDS.as_slice());
     Ok(())
 }
 

@@ -1,5 +1,5 @@
-// What no text gives, and its text: a split block, ops of the machine, values and cases that lack a part, and a run that
-// is stuck.
+// What no text gives, and its text: a split block, ops of the machine, values and cases that lack a part, and a run
+// that is stuck.
 
 use crate::made::{block, case, piece, unit_of_block, value};
 use gossa_base::{Name, NoMemory, Sequence};

@@ -2,6 +2,7 @@
 use Rattle.std.specs.Prelude.{ℕ, ℤ, ◌+◌, ◌*◌, Bool, true, false, if◌then◌else◌, List, [], ◌∷◌, ◌++◌, codes, decimal, Option, None, Some, slice_index_or}
 use Rattle.std.specs.Fmt.{signed_decimal}
 use Rattle.std.specs.List.{flat_map}
+use Rattle.gossa_base.specs.declared.ids.BlockId.{BlockId}
 use Rattle.gossa_base.specs.declared.ids.ValueId.{ValueId}
 use Rattle.gossa_base.specs.Texts.{led, value_text, block_text}
 use Rattle.ssa_ir.specs.declared.op.Op.{Op}
@@ -90,16 +91,50 @@ abbrev pub bit_test_text : Bool → List ℕ
 bit_test_text true = codes "TBNZ $0, "
 bit_test_text false = codes "TBZ $0, "
 
+-- a label, with the registers that hold a value there
+abbrev pub label_text : BlockId → List (ℕ × ValueId) → List ℕ
+label_text b regs = block_text b ++ (codes ":" ++ led (codes " ") held_text regs)
+
+-- a computing line, with its note
+abbrev pub computing_text : Op → ℤ → Operands → Note → List ℕ
+computing_text op aux o note = op_text op aux o ++ note_text note
+
+-- a move, from its source to its place
+abbrev pub move_text : (out : ℕ) (syms : List (List ℕ)) (to from : Place) → Note → List ℕ
+move_text out syms to from note =
+    codes "MOVD " ++ (place_text out syms from ++ (codes ", " ++ (place_text out syms to ++ note_text note)))
+
+-- a check for nil
+abbrev pub nil_check_text : ℕ → Note → List ℕ
+nil_check_text r note = codes "NILCHECK " ++ (reg_text r ++ note_text note)
+
+-- a branch on the flags
+abbrev pub branch_text : CondCode → BlockId → List ℕ
+branch_text c b = codes "B" ++ (cond_text c ++ (codes " " ++ block_text b))
+
+-- a branch on a bit of a register
+abbrev pub bit_branch_text : (set : Bool) → ℕ → BlockId → List ℕ
+bit_branch_text set r b = bit_test_text set ++ (reg_text r ++ (codes ", " ++ block_text b))
+
+-- a jump
+abbrev pub jump_text : BlockId → List ℕ
+jump_text b = codes "JMP " ++ block_text b
+
+-- a call, by the number of its map
+abbrev pub call_text : (syms : List (List ℕ)) (symbol map : ℕ) → Note → List ℕ
+call_text syms s map note =
+    codes "CALL " ++ (sym_text syms s ++ (codes "(SB), map=" ++ (decimal map ++ note_text note)))
+
 -- a line, without its end
 abbrev pub line_text : (out : ℕ) (syms : List (List ℕ)) → Line → List ℕ
-line_text out syms (Label b regs) = block_text b ++ (codes ":" ++ led (codes " ") held_text regs)
-line_text out syms (Compute op aux o note) = op_text op aux o ++ note_text note
-line_text out syms (Move to from note) = codes "MOVD " ++ (place_text out syms from ++ (codes ", " ++ (place_text out syms to ++ note_text note)))
-line_text out syms (Nil r note) = codes "NILCHECK " ++ (reg_text r ++ note_text note)
-line_text out syms (Branch c b) = codes "B" ++ (cond_text c ++ (codes " " ++ block_text b))
-line_text out syms (BitBranch set r b) = bit_test_text set ++ (reg_text r ++ (codes ", " ++ block_text b))
-line_text out syms (Jump b) = codes "JMP " ++ block_text b
-line_text out syms (Call s map note) = codes "CALL " ++ (sym_text syms s ++ (codes "(SB), map=" ++ (decimal map ++ note_text note)))
+line_text out syms (Label b regs) = label_text b regs
+line_text out syms (Compute op aux o note) = computing_text op aux o note
+line_text out syms (Move to from note) = move_text out syms to from note
+line_text out syms (Nil r note) = nil_check_text r note
+line_text out syms (Branch c b) = branch_text c b
+line_text out syms (BitBranch set r b) = bit_branch_text set r b
+line_text out syms (Jump b) = jump_text b
+line_text out syms (Call s map note) = call_text syms s map note
 line_text out syms Ret = codes "RET"
 line_text out syms Exit = codes "EXIT"
 

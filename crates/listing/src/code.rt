@@ -1,11 +1,8 @@
 // Functions of lines, and units of them.
 
-ghost use Rattle.std.specs.Prelude.{◌≡◌, IfOk};
-
 use crate::line::Line;
 use gossa_base::{Name, Sequence};
 use ssa_ir::{Sig, Sigs};
-use std::alloc::AllocError;
 use std::marker::Model;
 
 /// A list of lines.
@@ -41,47 +38,11 @@ impl Model for Code {
         (record { sig = c.sig; regs = c.regs; syms = c.syms; lines = c.lines; out = c.out; arg_words = c.arg_words }) };
 }
 
-impl Clone for Code {
-    ghost is_clone = { λ code copy. copy ≡ code };
-
-    fn clone(&self) -> Result<Self, AllocError> {
-        Ok(Code {
-            sig: same_sig(&self.sig)?,
-            regs: self.regs,
-            syms: same_names(&self.syms)?,
-            lines: same_lines(&self.lines)?,
-            out: self.out,
-            arg_words: self.arg_words,
-        })
-    }
-}
-
-// A signature of its own that is the same.
-fn same_sig(sig: &Sig) -> Result<Sig, AllocError>
-    ensures { IfOk result (λ copy. copy ≡ sig.now) }
-{
-    Ok(sig.clone()?)
-}
-
-// A list of its own of the same names.
-fn same_names(names: &Names) -> Result<Names, AllocError>
-    ensures { IfOk result (λ copy. copy ≡ names.now) }
-{
-    Ok(names.clone()?)
-}
-
-// A list of its own of the same lines.
-fn same_lines(lines: &Lines) -> Result<Lines, AllocError>
-    ensures { IfOk result (λ copy. copy ≡ lines.now) }
-{
-    Ok(lines.clone()?)
-}
-
 /// One bit for each word.
 pub type Bits = Sequence<bool>;
 
 /// Which argument words and which pointer words of the frame are live pointers at a call.
-#[derive(Clone, Drop)]
+#[derive(Drop)]
 pub struct Map {
     pub args: Bits,
     pub locals: Bits,
@@ -91,7 +52,7 @@ pub struct Map {
 pub type Maps = Sequence<Map>;
 
 /// A function's listing: its code, how many pointer words and scalar words its frame has, and its maps.
-#[derive(Clone, Drop)]
+#[derive(Drop)]
 pub struct Listing {
     pub code: Code,
     pub ptr: u32,
@@ -103,7 +64,7 @@ pub struct Listing {
 pub type ListingList = Sequence<Listing>;
 
 /// A unit's listings: the signatures of what it calls outside, and its functions in order.
-#[derive(Clone, Drop)]
+#[derive(Drop)]
 pub struct Listings {
     pub sigs: Sigs,
     pub funcs: ListingList,

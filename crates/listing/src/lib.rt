@@ -19,6 +19,8 @@ pub mod code;
 pub mod laws;
 pub mod line;
 pub mod print;
+mod print_line;
+mod print_parts;
 
 pub use code::{Bits, Code, Lines, Listing, ListingList, Listings, Map, Maps, Names};
 pub use line::{Line, Note, Operands, Place, RegState};

@@ -53,7 +53,7 @@ pub struct Operands {
 pub type RegState = Sequence<(u32, ValueId)>;
 
 /// One line of code.
-#[derive(Clone, Drop)]
+#[derive(Drop)]
 pub enum Line {
     /// A block's beginning.
     Label(BlockId, RegState),

@@ -4,6 +4,7 @@ ghost use Rattle.std.specs.Prelude.{◌≡◌, IfOk, MatchOption};
 ghost use Rattle.ssa_ir.specs.declared.func.SsaUnit.{SsaUnit as IrUnit};
 ghost use Rattle.ssa_ir.specs.WellFormed.{WellFormed, WellFormedFunc};
 ghost use Rattle.ssa_check.specs.Failing.{Accepted, FirstFault, FirstFaultOf, MeetsAll, MetBelow};
+ghost use Rattle.ssa_check.specs.Flow.{numbers_of, preds_of};
 ghost use Rattle.ssa_check.specs.SignatureTable.{names_of};
 ghost use Rattle.ssa_check.specs.Tables.{places_of};
 
@@ -113,7 +114,26 @@ fn path_checks(
 {
     let blocks = BlockTable::new(alloc, func)?;
     let flow = Flow::new(alloc, func, &blocks)?;
-    if let Some(at) = memory_fault(alloc, func, table, &blocks, &flow)? {
+    flow_checks(alloc, unit, func, table, &blocks, &flow)
+}
+
+// The same by the tables of the function's blocks and edges.
+fn flow_checks(
+    alloc: Global,
+    unit: &SsaUnit,
+    func: &Func,
+    table: &ValueTable,
+    blocks: &BlockTable,
+    flow: &Flow,
+) -> Result<Option<Found>, NoMemory>
+    requires well_formed { WellFormedFunc func.now }
+    requires of_func { table.now ≡ places_of func.now }
+    requires of_blocks { blocks.now ≡ numbers_of func.now }
+    requires flow { flow.now ≡ preds_of func.now }
+    requires before { MetBelow 8 unit.now func.now }
+    ensures { IfOk result (λ found. MatchOption found (MeetsAll unit.now func.now) (λ x. FirstFaultOf unit.now func.now x.check x.at)) }
+{
+    if let Some(at) = memory_fault(alloc, func, table, blocks, flow)? {
         return Ok(Some(Found {
             check: Check::Memory,
             at,
@@ -125,7 +145,7 @@ fn path_checks(
             at,
         }));
     }
-    if let Some(at) = undefined_fault(alloc, func, table, &blocks, &flow)? {
+    if let Some(at) = undefined_fault(alloc, func, table, blocks, flow)? {
         return Ok(Some(Found {
             check: Check::Undefined,
             at,

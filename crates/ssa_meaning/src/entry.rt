@@ -1,19 +1,21 @@
 // The run of a case.
 
 ghost use Rattle.std.specs.Prelude.{◌≡◌, ◌<◌, length, IfOk};
-ghost use Rattle.ssa_ir.specs.WellFormed.{WellFormed};
+ghost use Rattle.ssa_ir.specs.Inputs.{inputs_of};
+ghost use Rattle.ssa_ir.specs.Lookups.{sig_of};
+ghost use Rattle.ssa_ir.specs.Run.{generic, run};
+ghost use Rattle.ssa_ir.specs.WellFormed.{WellFormed, WellFormedFunc};
 ghost use Rattle.ssa_meaning.specs.CaseRun.{case_shown};
+ghost use Rattle.ssa_meaning.specs.Given.{IsGiven};
 
-use crate::memory::RunMemory;
 use crate::ready::ReadyFunc;
 use crate::running::Running;
 use crate::step::Given;
 use crate::symbols::SymbolTable;
-use crate::words::WordTable;
-use gossa_base::{NoMemory, Sequence};
+use gossa_base::NoMemory;
 use ssa_check::Checked;
 use ssa_check::signatures::SignatureTable;
-use ssa_ir::{Case, Shown, SsaUnit};
+use ssa_ir::{Case, Func, Shown, SsaUnit};
 use std::alloc::Global;
 
 /// What the function of a case shows: its calls, each with its arguments and the memory that had changed, and then how it
@@ -38,20 +40,25 @@ fn run_unit_case(alloc: Global, unit: &SsaUnit, case: &Case) -> Result<Shown, No
     let func = &unit.funcs.as_slice()[case.func as usize];
     let signatures = SignatureTable::new(alloc, unit)?;
     let symbols = SymbolTable::new(alloc, case.syms.as_slice())?;
-    let ready = ReadyFunc::new(alloc, func)?;
-    let mut running = Running {
-        words: WordTable::of_func(alloc, func)?,
-        memory: RunMemory::of_pieces(alloc, case.mem.as_slice())?,
-        calls: Sequence::new(alloc),
-        taken: 0,
-    };
     let given = Given {
         unit,
         signatures: &signatures,
         case,
         symbols: &symbols,
     };
-    let end = running.run_turns(alloc, &given, func, &ready)?;
+    run_given(alloc, &given, func)
+}
+
+// What a function shows by the tables of its unit and of a case.
+fn run_given(alloc: Global, given: &Given, func: &Func) -> Result<Shown, NoMemory>
+    requires given { IsGiven given.now }
+    requires well_formed { WellFormedFunc func.now }
+    ensures { IfOk result (λ shown. shown
+        ≡ run (generic (sig_of given.now.unit.now)) (inputs_of given.now.case.now) func.now given.now.case.now.bound) }
+{
+    let ready = ReadyFunc::new(alloc, func)?;
+    let mut running = Running::begun(alloc, func, given.case)?;
+    let end = running.run_turns(alloc, given, func, &ready)?;
     Ok(Shown {
         calls: running.calls,
         end,

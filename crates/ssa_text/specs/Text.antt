@@ -75,10 +75,13 @@ braces_text Dropped sym elem = []
 abbrev pub aux_text : Value → List ℕ
 aux_text v = let rule = (row_of v.op).aux in brackets_text rule v.aux ++ braces_text rule v.sym v.elem
 
+-- what stands behind the op on a value's line, with the line's end
+abbrev pub behind_op : Value → List ℕ
+behind_op v = type_text v.ty ++ (aux_text v ++ (led (codes " ") value_text v.args ++ newline))
+
 -- the line of a value
 abbrev pub value_line : Value → List ℕ
-value_line v =
-    value_text v.id ++ (codes " = " ++ (op_name v.op ++ (type_text v.ty ++ (aux_text v ++ (led (codes " ") value_text v.args ++ newline)))))
+value_line v = value_text v.id ++ (codes " = " ++ (op_name v.op ++ behind_op v))
 
 -- the blocks from which one is entered, behind an arrow, which is absent where there are none
 abbrev pub preds_text : List BlockId → List ℕ

@@ -3,7 +3,7 @@
 ghost use Rattle.std.specs.Prelude.{◌≡◌, ◌++◌, OnOk, IfOk};
 ghost use Rattle.std.specs.List.{flat_map};
 ghost use Rattle.case_text.specs.CaseText.{cases_text, name_at};
-ghost use Rattle.ssa_text.specs.Text.{before_commas, type_name, type_text, bool_word, brackets_text, name_or_none, scalar_or_none, braces_text, aux_text, value_line, preds_text, control_text, succ_text, choice_text, end_text, block_head, control_line, block_lines, func_text, func_names, unit_text};
+ghost use Rattle.ssa_text.specs.Text.{before_commas, type_name, type_text, bool_word, brackets_text, name_or_none, scalar_or_none, braces_text, aux_text, behind_op, value_line, preds_text, control_text, succ_text, choice_text, end_text, block_head, control_line, block_lines, func_text, func_names, unit_text};
 
 use case_text::print_case;
 use gossa_base::{
@@ -182,6 +182,13 @@ fn print_value(text: &mut Vec<u8>, value: &Value) -> Result<(), NoMemory>
     value.id.print(text)?;
     put(text, b" = ")?;
     value.op.print(text)?;
+    print_behind_op(text, value)
+}
+
+// What stands behind a value's op on its line, and the line's end.
+fn print_behind_op(text: &mut Vec<u8>, value: &Value) -> Result<(), NoMemory>
+    ensures { OnOk result (text.new.items ≡ text.old.items ++ behind_op value.now) }
+{
     print_type(text, &value.ty)?;
     print_aux(text, value)?;
     print_led(text, b" ", value.args.as_slice())?;

@@ -1,6 +1,5 @@
 use Rattle.std.proofs.Common.{ap, ◌∙◌, ◌-◌, ◌^◌, arith}
 use Rattle.std.proofs.lemmas.Nat.{mod_below, pow_pos}
-use Rattle.gossa_base.specs.Words.{low}
 use Rattle.gossa_base.proofs.WordLemmas.{low_mask}
 use Rattle.arm64_ops.proofs.bits.inverted.Goals as goal
 

@@ -1,4 +1,4 @@
-use Rattle.std.proofs.Common.{ap, cond, sym, ◌∙◌, rules, FitsSigned, w64, ℤ, int_div}
+use Rattle.std.proofs.Common.{ap, cond, sym, ◌∙◌, rules, FitsSigned, w64, int_div}
 use Rattle.std.proofs.lemmas.Bool.{ne_eqb}
 use Rattle.gossa_base.specs.Words.{low, signed_at, word_of}
 use Rattle.arm64_ops.proofs.DivisionLemmas.{quotient_word}

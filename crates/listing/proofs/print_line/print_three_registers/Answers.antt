@@ -1,7 +1,7 @@
 use Rattle.std.proofs.Common.{codes}
 use Rattle.listing.specs.Text.{reg_or_none}
 use Rattle.gossa_base.proofs.PrefixLemmas.{kept, in_front, behind_piece, failed, on_failure}
-use Rattle.listing.proofs.print.print_three_registers.Goals as goal
+use Rattle.listing.proofs.print_line.print_three_registers.Goals as goal
 
 pub returns-in_err-print_register_or_none-clause-prefix : goal.returns-in_err-print_register_or_none-clause-prefix
 returns-in_err-print_register_or_none-clause-prefix c =

@@ -2,7 +2,7 @@ use Rattle.std.proofs.Common.{refl, arith}
 use Rattle.ssa_check.specs.declared.refusal.Check.TheVariants.{Edges, Arity, Memory, Cycle, Undefined, Control}
 use Rattle.ssa_check.specs.Failing.{MetBelow}
 use Rattle.ssa_check.proofs.OrderLemmas.{all_met, arity_alike, edges_alike, fails_first, goes_on}
-use Rattle.ssa_check.proofs.faults.path_checks.Goals as goal
+use Rattle.ssa_check.proofs.faults.flow_checks.Goals as goal
 
 pub memory_fault-requires-clause-edges : goal.memory_fault-requires-clause-edges
 memory_fault-requires-clause-edges c = λ u.

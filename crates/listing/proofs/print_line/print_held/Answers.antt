@@ -2,7 +2,7 @@ use Rattle.std.proofs.Common.{◌++◌, codes, arith}
 use Rattle.std.proofs.lemmas.Grind.{common_steps}
 use Rattle.gossa_base.proofs.PrefixLemmas.{in_item, failed}
 use Rattle.listing.specs.Text.{held_text}
-use Rattle.listing.proofs.print.print_held.Goals as goal
+use Rattle.listing.proofs.print_line.print_held.Goals as goal
 
 pub returns-in_err-print_held_value-clause-prefix : goal.returns-in_err-print_held_value-clause-prefix
 returns-in_err-print_held_value-clause-prefix c =

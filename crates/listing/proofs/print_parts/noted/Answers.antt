@@ -1,5 +1,5 @@
 use Rattle.gossa_base.proofs.PrefixLemmas.{behind_piece, on_failure}
-use Rattle.listing.proofs.print.noted.Goals as goal
+use Rattle.listing.proofs.print_parts.noted.Goals as goal
 
 pub returns-clause-prefix : goal.returns-clause-prefix
 returns-clause-prefix c =

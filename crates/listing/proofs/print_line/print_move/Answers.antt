@@ -1,0 +1,18 @@
+use Rattle.std.proofs.Common.{codes}
+use Rattle.gossa_base.proofs.PrefixLemmas.{in_front, behind_piece, failed, on_failure}
+use Rattle.listing.proofs.print_line.print_move.Goals as goal
+
+pub returns-in_err-print_place-2-clause-prefix : goal.returns-in_err-print_place-2-clause-prefix
+returns-in_err-print_place-2-clause-prefix c =
+    failed _ _ (behind_piece _ _ _ (codes "MOVD ") _ c.in_ok-put.ensures.ok
+    (behind_piece _ _ _ _ _ c.in_ok-print_place.ensures.ok
+    (behind_piece _ _ _ (codes ", ") _ c.in_ok-put-2.ensures.ok
+    (in_front _ _ _ _ c.in_err-print_place-2.ensures.prefix))))
+
+pub returns-clause-prefix : goal.returns-clause-prefix
+returns-clause-prefix c =
+    on_failure c.print.result c.print.ensures.prefix
+    (λ p. behind_piece _ _ _ (codes "MOVD ") _ c.in_ok-put.ensures.ok
+    (behind_piece _ _ _ _ _ c.in_ok-print_place.ensures.ok
+    (behind_piece _ _ _ (codes ", ") _ c.in_ok-put-2.ensures.ok
+    (behind_piece _ _ _ _ _ c.in_ok-print_place-2.ensures.ok p))))
