@@ -1,6 +1,7 @@
 // Reading a unit line by line.
 
-ghost use Rattle.std.specs.Prelude.{◌≡◌, ◌==◌, ◌++◌, map, OnOk, IfOk, true, false};
+ghost use Rattle.std.specs.Prelude.{◌≡◌, ◌==◌, ◌++◌, ◌∷◌, [], map, OnOk, IfOk, true, false};
+ghost use Rattle.ssa_lines.specs.Words.{is_same};
 ghost use Rattle.std.specs.List.{list_any};
 ghost use Rattle.ssa_lines.specs.declared.forms.Form.TheVariants.{Sig as SigForm, Func as FuncForm, Block as BlockForm, Value as ValueForm, Control as ControlForm};
 ghost use Rattle.ssa_lines.specs.declared.forms.Spelled.TheVariants.{Fits};
@@ -191,7 +192,7 @@ impl Reader {
         ensures { IfOk result (λ next. next ≡ behind self 0 (SigForm sig)) }
     {
         let mut reader = self;
-        reader.names.insert(same_name(&sig.name)?)?;
+        put_name(&mut reader.names, &sig.name)?;
         reader.sigs.push(sig)?;
         Ok(reader)
     }
@@ -203,23 +204,18 @@ impl Reader {
     {
         let unknown = self.unknown_line();
         let mut reader = self;
-        reader.names.insert(same_name(&sig.name)?)?;
+        put_name(&mut reader.names, &sig.name)?;
+        reader.funcs = with_whole(reader.funcs, reader.func)?;
+        reader.func = Some(OpenFunc {
+            sig,
+            blocks: Sequence::new(alloc),
+            block: None,
+        });
+        reader.mentions = Sequence::new(alloc);
+        reader.unknown = unknown;
         reader.blocks.clear();
         reader.values.clear();
-        Ok(Reader {
-            sigs: reader.sigs,
-            funcs: with_whole(reader.funcs, reader.func)?,
-            func: Some(OpenFunc {
-                sig,
-                blocks: Sequence::new(alloc),
-                block: None,
-            }),
-            mentions: Sequence::new(alloc),
-            unknown,
-            names: reader.names,
-            blocks: reader.blocks,
-            values: reader.values,
-        })
+        Ok(reader)
     }
 
     fn take_block(self, alloc: Global, line: u32, block: BlockLine) -> Result<Reader, NoMemory>
@@ -350,6 +346,14 @@ fn with_open_name(
         names.push(same_name(&func.sig.name)?)?;
     }
     Ok(names)
+}
+
+// A name behind the others, where it isn't among them.
+fn put_name(names: &mut NameSet, name: &Name) -> Result<(), NoMemory>
+    requires { list_any (λ n. is_same n name.now) names.old ≡ false }
+    ensures { OnOk result (names.new ≡ names.old ++ name.now ∷ []) }
+{
+    names.insert(same_name(name)?)
 }
 
 // A name of its own that is the same.
