@@ -1,17 +1,32 @@
 // What values are made of: ids, names, lists, and words at their widths.
 
+ghost use Rattle.std.specs.Prelude.{◌≤◌, length};
+
 use gossa_base::{BlockId, Bytes, Name, NoMemory, Sequence, ValueId, low, sext};
-use std::alloc::AllocError;
+use std::alloc::{AllocError, Global};
 use std::test::Fail;
 
 #[test]
 fn names_are_their_bytes(rt: HostRuntime) -> Result<(), Fail> {
     let name = Name::from_slice(rt.alloc(), b"main")?;
     assert!(rt; name.as_slice() == b"main".as_slice());
-    assert!(rt; name.clone()? == name);
-    let other = Name::from_slice(rt.alloc(), b"maim")?;
-    assert!(rt; other != name);
+    assert!(rt; is_copied(&name)?);
+    assert!(rt; is_named(rt.alloc(), &name, b"main")?);
+    assert!(rt; !is_named(rt.alloc(), &name, b"maim")?);
     Ok(())
+}
+
+// Whether a copy of a name is equal to it.
+fn is_copied(name: &Name) -> Result<bool, NoMemory> {
+    Ok(name.clone()? == *name)
+}
+
+// Whether a name is that of these 1 to 100 bytes.
+fn is_named(alloc: Global, name: &Name, bytes: &[u8]) -> Result<bool, NoMemory>
+    requires some { 1 ≤ length bytes.now }
+    requires few { length bytes.now ≤ 100 }
+{
+    Ok(Name::from_slice(alloc, bytes)? == *name)
 }
 
 #[test]

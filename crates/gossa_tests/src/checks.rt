@@ -1,11 +1,14 @@
 // Checks of units, and runs of those that meet them: each call once at its types.
 
+ghost use Rattle.std.specs.Prelude.{◌≡◌, ◌≤◌, length};
+ghost use Rattle.ssa_check.specs.SignatureTable.{names_of};
+
 use crate::dumps::{CASES, MARKED};
 use crate::made::{checked_text, unit_of_text};
-use gossa_base::{Name, ValueId};
+use gossa_base::{Name, NoMemory, ValueId};
 use ssa_check::signatures::SignatureTable;
 use ssa_check::{At, Check, CheckRefusal, Checked, Fault, check};
-use ssa_ir::End;
+use ssa_ir::{End, SsaUnit};
 use ssa_meaning::run_case;
 use ssa_text::print_unit;
 use std::alloc::Global;
@@ -88,21 +91,42 @@ fn signatures_are_looked_up(rt: HostRuntime) -> Result<(), Fail> {
         (b"main.su".as_slice(), None),
     ] {
         assert!(rt; !name.is_empty() && name.len() <= 100);
-        let name = Name::from_slice(alloc, name)?;
-        let found = table.sig(&unit, &name);
-        assert!(rt; found.map(|sig| sig.params.len()) == want);
+        assert!(rt; params_of(alloc, &unit, &table, name)? == want);
     }
     Ok(())
+}
+
+// How many parameters the signature of this name has; none where there is no such signature.
+fn params_of(
+    alloc: Global,
+    unit: &SsaUnit,
+    table: &SignatureTable,
+    name: &[u8],
+) -> Result<Option<usize>, NoMemory>
+    requires some { 1 ≤ length name.now }
+    requires few { length name.now ≤ 100 }
+    requires table { table.now ≡ names_of unit.now }
+{
+    let name = Name::from_slice(alloc, name)?;
+    match table.sig(unit, &name) {
+        Some(sig) => Ok(Some(sig.params.len())),
+        None => Ok(None),
+    }
 }
 
 #[test]
 fn a_case_shows_its_calls_and_its_end(rt: HostRuntime) -> Result<(), Fail> {
     let alloc = rt.alloc();
-    let text = format!(in alloc; "{MARKED}{CASES}")?;
-    let checked = checked_text(alloc, text.as_str())?;
+    let checked = checked_cases(alloc)?;
     assert!(rt; shown_of(alloc, &checked, 0)? == (0, Some(7)));
     assert!(rt; shown_of(alloc, &checked, 2)? == (1, None));
     Ok(())
+}
+
+// The dump with its cases.
+fn checked_cases(alloc: Global) -> Result<Checked, Fail> {
+    let text = format!(in alloc; "{MARKED}{CASES}")?;
+    checked_text(alloc, text.as_str())
 }
 
 // How many calls the case of this number shows, and the first word that it returns, none where it exits.

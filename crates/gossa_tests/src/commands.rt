@@ -2,11 +2,13 @@
 
 use crate::dumps::{CASES, MARKED};
 use crate::made::{owned, unit_of_text};
-use gossa_base::{MemSink, MemSource, NoMemory, Sequence};
+use gossa_base::{Bytes, MemSink, MemSource, NoMemory, Sequence};
 use gossa_core::{
     Command, Status, all_narrow, allocate, allocate_all, gossa, is_narrow, read_words,
 };
-use listing::{Listings, print_listing};
+use listing::{ListingList, Listings, print_listing};
+use ssa_ir::Func;
+use std::alloc::Global;
 use std::process::Abort;
 use std::test::Fail;
 
@@ -66,16 +68,19 @@ fn allocates_one_function(rt: HostRuntime) -> Result<(), Fail> {
     let alloc = rt.alloc();
     let unit = unit_of_text(alloc, SAME)?;
     for func in unit.funcs.as_slice() {
-        if !is_narrow(func) {
-            return Err(Fail::new("not built"));
-        }
-        let mut funcs = Sequence::new(alloc);
-        funcs.push(allocate(alloc, func, 24)?)?;
-        let sigs = Sequence::new(alloc);
-        let text = print_listing(alloc, &Listings { sigs, funcs })?;
-        assert!(rt; text.as_slice() == SAME_LISTING.as_bytes());
+        assert!(rt; listed(alloc, func)?.as_slice() == SAME_LISTING.as_bytes());
     }
     Ok(())
+}
+
+// The listing of a function that is compiled so far.
+fn listed(alloc: Global, func: &Func) -> Result<Bytes, Fail> {
+    if !is_narrow(func) {
+        return Err(Fail::new("not built"));
+    }
+    let mut funcs = Sequence::new(alloc);
+    funcs.push(allocate(alloc, func, 24)?)?;
+    Ok(text_of_funcs(alloc, funcs)?)
 }
 
 #[test]
@@ -86,10 +91,15 @@ fn allocates_all_functions(rt: HostRuntime) -> Result<(), Fail> {
         return Err(Fail::new("not built"));
     }
     let funcs = allocate_all(alloc, unit.funcs.as_slice(), 24)?;
-    let sigs = Sequence::new(alloc);
-    let text = print_listing(alloc, &Listings { sigs, funcs })?;
+    let text = text_of_funcs(alloc, funcs)?;
     assert!(rt; text.as_slice() == SAME_LISTING.as_bytes());
     Ok(())
+}
+
+// The text of the listings of functions, without `sig` lines.
+fn text_of_funcs(alloc: Global, funcs: ListingList) -> Result<Bytes, NoMemory> {
+    let sigs = Sequence::new(alloc);
+    print_listing(alloc, &Listings { sigs, funcs })
 }
 
 #[test]

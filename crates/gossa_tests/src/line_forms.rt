@@ -128,7 +128,7 @@ fn reads_lines_of_values(rt: HostRuntime) -> Result<(), Fail> {
         return Err(Fail::new("no value"));
     };
     assert!(rt; value.id == ValueId(3));
-    assert!(rt; value.op == Op::Arg);
+    assert!(rt; matches!(value.op, Op::Arg));
     assert!(rt; value.aux == 1);
     let mut words = Words::of(b"v2 = Hmul64 <int64> v1 v1");
     let unknown = read_value_line(rt.alloc(), &mut words)?;

@@ -4,7 +4,7 @@
 use crate::made::{block, case, piece, unit_of_block, value};
 use gossa_base::{Name, NoMemory, Sequence};
 use gossa_core::print_shown;
-use ssa_ir::{Block, End, Kind, Op, Scalar, Shown, SsaUnit, Ty};
+use ssa_ir::{Block, Case, End, Kind, Op, Scalar, Shown, SsaUnit, Ty};
 use ssa_text::print_unit;
 use std::alloc::Global;
 use std::test::Fail;
@@ -30,15 +30,25 @@ fn prints_what_has_no_form(rt: HostRuntime) -> Result<(), Fail> {
 
 // Its only case is of a function that isn't there.
 fn odd_unit(alloc: Global) -> Result<SsaUnit, NoMemory> {
+    let mut unit = unit_of_block(alloc, odd_block(alloc)?)?;
+    unit.cases.push(stray_case(alloc)?)?;
+    Ok(unit)
+}
+
+// A block that splits an edge, with values that no text gives.
+fn odd_block(alloc: Global) -> Result<Block, NoMemory> {
     let mut block = block(alloc, 1, &[], Kind::Bit, None, &[])?;
     block.id.split = true;
     push_values(alloc, &mut block)?;
-    let mut unit = unit_of_block(alloc, block)?;
+    Ok(block)
+}
+
+// A case of a second function.
+fn stray_case(alloc: Global) -> Result<Case, NoMemory> {
     let mut stray = case(alloc, 2, &[])?;
     stray.func = 1;
     stray.mem.push(piece(alloc, 0x10, &[])?)?;
-    unit.cases.push(stray)?;
-    Ok(unit)
+    Ok(stray)
 }
 
 fn push_values(alloc: Global, block: &mut Block) -> Result<(), NoMemory> {

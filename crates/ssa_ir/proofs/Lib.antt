@@ -1,5 +1,6 @@
 pub mod LookupLemmas
 pub mod OpNameLemmas
+pub mod OpPlaceLemmas
 pub mod OwnNames
 pub mod RunLemmas
 pub mod WellFormedLemmas

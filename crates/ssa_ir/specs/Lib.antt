@@ -14,6 +14,7 @@ pub mod Limits
 pub mod Lookups
 pub mod Names
 pub mod OpNames
+pub mod OpPlaces
 pub mod Ops
 pub mod Phis
 pub mod Roles

@@ -12,15 +12,15 @@ use Rattle.ssa_ir.specs.declared.op.Op.{Op}
 use Rattle.ssa_ir.specs.declared.op.Op.TheVariants.{Add, Sub, Mul, And, Or, Xor, Neg, Com, Div, DivU, Mod, ModU, Lsh, Rsh, RshU, Eq, Neq, Less, Leq, LessU, LeqU, EqB, NeqB, AndB, OrB, Not, EqPtr, NeqPtr, IsNonNil, IsInBounds, IsSliceInBounds, SignExt, ZeroExt, Trunc, AddPtr, OffPtr, Load, Store, NilCheck, CondSelect, Const, ConstBool, ConstNil, SB, Addr, Phi, Copy, Arg, InitMem, StaticLECall, SelectN, MakeResult}
 use Rattle.ssa_ir.specs.declared.op.Op.TheVariants.{Arm64MOVDconst, Arm64MOVDaddr, Arm64ADD, Arm64SUB, Arm64AND, Arm64OR, Arm64XOR, Arm64MUL, Arm64MULW, Arm64ADDconst, Arm64SUBconst, Arm64ANDconst, Arm64ORconst, Arm64XORconst, Arm64NEG, Arm64MVN, Arm64DIV, Arm64UDIV, Arm64DIVW, Arm64UDIVW, Arm64MOD, Arm64UMOD, Arm64MODW, Arm64UMODW, Arm64SLL, Arm64SRL, Arm64SRA, Arm64SLLconst, Arm64SRLconst, Arm64SRAconst, Arm64MOVBreg, Arm64MOVHreg, Arm64MOVWreg, Arm64MOVBUreg, Arm64MOVHUreg, Arm64MOVWUreg, Arm64CMP, Arm64CMPW, Arm64CMPconst, Arm64CMPWconst, Arm64TSTWconst, Arm64Equal, Arm64NotEqual, Arm64LessThan, Arm64LessEqual, Arm64GreaterThan, Arm64GreaterEqual, Arm64LessThanU, Arm64LessEqualU, Arm64GreaterThanU, Arm64GreaterEqualU, Arm64CSEL, Arm64MOVBload, Arm64MOVHload, Arm64MOVWload, Arm64MOVBUload, Arm64MOVHUload, Arm64MOVWUload, Arm64MOVDload, Arm64MOVBstore, Arm64MOVHstore, Arm64MOVWstore, Arm64MOVDstore, Arm64LoweredNilCheck, Arm64CALLstatic}
 
--- one of four names, by width
-abbrev pub by_width : Width → (w8 w16 w32 w64 : List ℕ) → List ℕ
+-- one of four, by width
+abbrev pub by_width : {A : Type 0} → Width → (w8 w16 w32 w64 : A) → A
 by_width W8 w8 w16 w32 w64 = w8
 by_width W16 w8 w16 w32 w64 = w16
 by_width W32 w8 w16 w32 w64 = w32
 by_width W64 w8 w16 w32 w64 = w64
 
--- one of six names, by two widths
-abbrev pub by_widths : WidthPair → (w8w16 w8w32 w8w64 w16w32 w16w64 w32w64 : List ℕ) → List ℕ
+-- one of six, by two widths
+abbrev pub by_widths : {A : Type 0} → WidthPair → (w8w16 w8w32 w8w64 w16w32 w16w64 w32w64 : A) → A
 by_widths W8W16 w8w16 w8w32 w8w64 w16w32 w16w64 w32w64 = w8w16
 by_widths W8W32 w8w16 w8w32 w8w64 w16w32 w16w64 w32w64 = w8w32
 by_widths W8W64 w8w16 w8w32 w8w64 w16w32 w16w64 w32w64 = w8w64

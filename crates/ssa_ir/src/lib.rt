@@ -27,6 +27,8 @@ pub mod laws;
 pub mod lookups;
 pub mod op;
 pub mod op_names;
+mod op_places;
+mod op_search;
 pub mod role;
 pub mod texts;
 pub mod types;

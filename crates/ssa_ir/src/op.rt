@@ -27,7 +27,7 @@ pub enum WidthPair {
 ///
 /// A generic op has the name that Go's `genericOps` gives it, without its width. An op of the machine
 /// has Go's `OpARM64` name, behind `Arm64`. A word that is wider than an op counts by its low bits.
-#[derive(Clone, Copy, PartialEq, Eq)]
+#[derive(Clone, Copy)]
 pub enum Op {
     /// The sum modulo 2 to the width, as `Add64`.
     Add(Width),

@@ -17,6 +17,10 @@ type_names =
     ∷ (codes "uintptr", Uintptr) ∷ (codes "bool", TrueOrFalse)
     ∷ (codes "int", I64) ∷ (codes "uint", U64) ∷ (codes "byte", U8) ∷ (codes "unsafe.Pointer", Ptr) ∷ []
 
+-- the type of a name among names of types
+abbrev pub scalar_among : List (List ℕ × Scalar) → List ℕ → Option Scalar
+scalar_among names word = option_map (λ row. row.1) (find (λ row. is_same row.0 word) names)
+
 -- a letter, a digit, or one of _ . * [ ]
 abbrev pub is_pointed_byte : ℕ → Bool
 is_pointed_byte b = is_name_start b || is_digit b || b == 46 || b == 42 || b == 91 || b == 93
@@ -30,7 +34,7 @@ is_pointer (b ∷ c ∷ bytes) = b == 42 && list_all is_pointed_byte (c ∷ byte
 -- the type of one word that a word spells
 abbrev pub scalar_of : List ℕ → Option Scalar
 scalar_of word =
-    if is_pointer word then Some Ptr else option_map (λ row. row.1) (find (λ row. is_same row.0 word) type_names)
+    if is_pointer word then Some Ptr else scalar_among type_names word
 
 abbrev pub is_comma : ℕ → Bool
 is_comma b = b == 44

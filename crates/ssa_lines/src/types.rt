@@ -1,9 +1,9 @@
 // The types that words spell.
 
-ghost use Rattle.std.specs.Prelude.{◌≡◌, ◌==◌, true, false, [], ◌∷◌, length, position, find, option_copied, IfOk, MatchOption};
+ghost use Rattle.std.specs.Prelude.{◌≡◌, ◌==◌, true, false, [], ◌∷◌, length, map, position, find, option_copied, IfOk, MatchOption};
 ghost use Rattle.std.specs.Option.{option_map};
 ghost use Rattle.std.specs.List.{before_first, after_first, list_any, list_all, slice_split};
-ghost use Rattle.ssa_lines.specs.Types.{is_comma, is_pointed_byte, is_pointer, scalar_of, type_names, tuple_of, type_of_parts, type_of};
+ghost use Rattle.ssa_lines.specs.Types.{is_comma, is_pointed_byte, is_pointer, scalar_of, scalar_among, type_names, tuple_of, type_of_parts, type_of};
 ghost use Rattle.ssa_lines.specs.Words.{is_same, TakesNext};
 
 use crate::words::{is_same, without_first};
@@ -45,41 +45,41 @@ fn is_pointed_byte(byte: u8) -> bool
     byte.is_ascii_alphanumeric() || matches!(byte, b'_' | b'.' | b'*' | b'[' | b']')
 }
 
+// The names of the types: Go's, with its other names for three of them, and the pointer that has a name.
+static TYPE_NAMES: [(&'static str, Scalar); 14] = [
+    ("int8", Scalar::I8),
+    ("int16", Scalar::I16),
+    ("int32", Scalar::I32),
+    ("int64", Scalar::I64),
+    ("uint8", Scalar::U8),
+    ("uint16", Scalar::U16),
+    ("uint32", Scalar::U32),
+    ("uint64", Scalar::U64),
+    ("uintptr", Scalar::Uintptr),
+    ("bool", Scalar::Bool),
+    ("int", Scalar::I64),
+    ("uint", Scalar::U64),
+    ("byte", Scalar::U8),
+    ("unsafe.Pointer", Scalar::Ptr),
+];
+
 // The type of this name.
 fn named_scalar(word: &[u8]) -> Option<Scalar>
-    ensures { result ≡ option_map (λ row. row.1) (find (λ row. is_same row.0 word.now) type_names) }
+    ensures { result ≡ scalar_among type_names word.now }
 {
-    Some(if is_same(b"int8", word) {
-        Scalar::I8
-    } else if is_same(b"int16", word) {
-        Scalar::I16
-    } else if is_same(b"int32", word) {
-        Scalar::I32
-    } else if is_same(b"int64", word) {
-        Scalar::I64
-    } else if is_same(b"uint8", word) {
-        Scalar::U8
-    } else if is_same(b"uint16", word) {
-        Scalar::U16
-    } else if is_same(b"uint32", word) {
-        Scalar::U32
-    } else if is_same(b"uint64", word) {
-        Scalar::U64
-    } else if is_same(b"uintptr", word) {
-        Scalar::Uintptr
-    } else if is_same(b"bool", word) {
-        Scalar::Bool
-    } else if is_same(b"int", word) {
-        Scalar::I64
-    } else if is_same(b"uint", word) {
-        Scalar::U64
-    } else if is_same(b"byte", word) {
-        Scalar::U8
-    } else if is_same(b"unsafe.Pointer", word) {
-        Scalar::Ptr
-    } else {
-        return None;
-    })
+    scalar_in(&TYPE_NAMES, word)
+}
+
+// The type of this name in a table of names.
+fn scalar_in(names: &[(&'static str, Scalar)], word: &[u8]) -> Option<Scalar>
+    ensures { result ≡ scalar_among (map (λ row. (row.0.now, row.1)) names.now) word.now }
+{
+    for row in names {
+        if is_same(row.0.as_bytes(), word) {
+            return Some(row.1);
+        }
+    }
+    None
 }
 
 /// The type that the text in angle brackets spells; none where it spells none. `mem` alone is a tuple without words,

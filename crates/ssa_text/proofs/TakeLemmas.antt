@@ -14,7 +14,25 @@ use Rattle.ssa_text.specs.declared.partial.OpenBlock.{OpenBlock}
 use Rattle.ssa_text.specs.declared.partial.OpenFunc.{OpenFunc}
 use Rattle.ssa_lines.specs.Tables.{with_number}
 use Rattle.ssa_lines.proofs.TableLemmas.{list_any_map}
-use Rattle.ssa_text.specs.Reading.{has_open_block, open_name, open_block_id, block_ids, open_values, values_so_far, change, begin_block, add_value, value_behind, whole_block, end_open, end_block, with_whole}
+use Rattle.ssa_text.specs.declared.partial.Mention.{Mention}
+use Rattle.ssa_text.specs.Reading.{read_of, has_open_block, open_name, open_block_id, block_ids, open_values, values_so_far, change, begin_block, add_value, value_behind, whole_block, end_open, end_block, with_whole}
+
+-- what was read is known by its parts
+pub so_far : (sigs : List Sig) {funcs more : List Func} {func next : Option OpenFunc} {mentions named : List Mention}
+    {unknown first : Option ℕ} → funcs ≡ more → func ≡ next → mentions ≡ named → unknown ≡ first
+    → read_of sigs funcs func mentions unknown ≡ read_of sigs more next named first
+so_far sigs {funcs} {more} {func} {next} {mentions} {named} {unknown} {first} whole changed told missing =
+    ap (λ l. read_of sigs l func mentions unknown) whole
+    ∙ ap (λ f. read_of sigs more f mentions unknown) changed
+    ∙ ap (λ l. read_of sigs more next l unknown) told
+    ∙ ap (read_of sigs more next named) missing
+
+-- a function that begins, with its blocks
+abbrev new_func : Sig → List Block → Option OpenFunc
+new_func s blocks = Some (record { sig = s; blocks = blocks; block = None })
+
+pub begun : (s : Sig) {blocks : List Block} → blocks ≡ [] → new_func s blocks ≡ new_func s []
+begun s empty = ap (new_func s) empty
 
 -- the names of signatures, of whole functions, and of one that goes on
 abbrev pub all_names : List Sig → List Func → Option OpenFunc → List (List ℕ)
@@ -35,7 +53,7 @@ whole_names funcs (Some f) = map-append (λ (g : Func). g.sig.name) funcs (recor
 
 -- a function behind the others
 pub func_behind : (sigs : List Sig) (funcs : List Func) (func : Option OpenFunc) (s : Sig)
-    → all_names sigs (with_whole funcs func) (Some (record { sig = s; blocks = []; block = None }))
+    → all_names sigs (with_whole funcs func) (new_func s [])
     ≡ all_names sigs funcs func ++ s.name ∷ []
 func_behind sigs funcs func s =
     ap (λ l. map (λ t. t.name) sigs ++ (l ++ s.name ∷ [])) (whole_names funcs func)
@@ -143,15 +161,16 @@ sig_taken sigs more funcs None s names after name none first before pushed put s
     ∙ ap (λ fs. all_names more fs None) (sym empty)
 
 -- the table of names behind the beginning of a function
-pub func_taken : (sigs : List Sig) (funcs more : List Func) (func : Option OpenFunc) (s : Sig) (names after : List (List ℕ))
-    (name : List ℕ) → names ≡ all_names sigs funcs func → more ≡ with_whole funcs func → after ≡ names ++ name ∷ [] → name ≡ s.name
-    → after ≡ all_names sigs more (Some (record { sig = s; blocks = []; block = None }))
-func_taken sigs funcs more func s names after name before whole put same =
+pub func_taken : (sigs : List Sig) (funcs more : List Func) (func : Option OpenFunc) (s : Sig) (blocks : List Block)
+    (names after : List (List ℕ)) → names ≡ all_names sigs funcs func → more ≡ with_whole funcs func
+    → after ≡ names ++ s.name ∷ [] → blocks ≡ []
+    → after ≡ all_names sigs more (new_func s blocks)
+func_taken sigs funcs more func s blocks names after before whole put empty =
     put
-    ∙ ap (λ n. names ++ n ∷ []) same
     ∙ ap (λ l. l ++ s.name ∷ []) before
     ∙ sym (func_behind sigs funcs func s)
-    ∙ ap (λ fs. all_names sigs fs (Some (record { sig = s; blocks = []; block = None }))) (sym whole)
+    ∙ ap (λ fs. all_names sigs fs (new_func s [])) (sym whole)
+    ∙ ap (all_names sigs more) (sym (begun s empty))
 
 -- the table of names stays where the function that goes on changes
 pub names_stay : (sigs : List Sig) (funcs : List Func) (func : Option OpenFunc) (by : OpenFunc → OpenFunc) (names : List (List ℕ))

@@ -1,4 +1,5 @@
 pub mod CaseSplit
+pub mod Gathering
 pub mod ReadLaws
 pub mod Reading
 pub mod Text

@@ -20,6 +20,7 @@
 //! The cases of a unit are read by `case_text`; [`split_cases`] says where they begin.
 #![tactic(auto)]
 
+pub mod gathered;
 pub mod laws;
 pub mod partial;
 pub mod print;

@@ -1,6 +1,6 @@
 // What a reader has of a function whose lines go on.
 
-ghost use Rattle.std.specs.Prelude.{◌≡◌, IfOk};
+ghost use Rattle.std.specs.Prelude.{◌≡◌, IfOk, OnOk};
 ghost use Rattle.ssa_text.specs.Reading.{change, begin_block, add_value, value_behind, end_block, whole_block, with_whole};
 
 use gossa_base::{BlockId, NoMemory, Sequence, ValueId};
@@ -133,16 +133,15 @@ fn ended(block: OpenBlock, line: ControlLine) -> Block
     }
 }
 
-// The functions with one more that ends, if any.
-pub(crate) fn with_whole(funcs: Funcs, func: Option<OpenFunc>) -> Result<Funcs, NoMemory>
-    ensures { IfOk result (λ more. more ≡ with_whole funcs func) }
+// One more function behind the others, which ends, if any.
+pub(crate) fn put_whole(funcs: &mut Funcs, func: Option<OpenFunc>) -> Result<(), NoMemory>
+    ensures { OnOk result (funcs.new ≡ with_whole funcs.old func) }
 {
-    let mut funcs = funcs;
     if let Some(func) = func {
         funcs.push(Func {
             sig: func.sig,
             blocks: func.blocks,
         })?;
     }
-    Ok(funcs)
+    Ok(())
 }

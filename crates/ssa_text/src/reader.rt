@@ -1,56 +1,36 @@
 // Reading a unit line by line.
 
-ghost use Rattle.std.specs.Prelude.{◌≡◌, ◌==◌, ◌++◌, ◌∷◌, [], map, OnOk, IfOk, true, false};
-ghost use Rattle.ssa_lines.specs.Words.{is_same};
-ghost use Rattle.std.specs.List.{list_any};
-ghost use Rattle.ssa_lines.specs.declared.forms.Form.TheVariants.{Sig as SigForm, Func as FuncForm, Block as BlockForm, Value as ValueForm, Control as ControlForm};
-ghost use Rattle.ssa_lines.specs.declared.forms.Spelled.TheVariants.{Fits};
-ghost use Rattle.ssa_lines.specs.declared.forms.ValueLine.TheVariants.{Known};
-ghost use Rattle.ssa_text.specs.declared.partial.Named.TheVariants.{OfValue, OfBlock};
-ghost use Rattle.ssa_text.specs.Reading as spec;
+ghost use Rattle.std.specs.Prelude.{◌≡◌, ◌++◌, map, IfOk, false, true};
 ghost use Rattle.std.specs.Option.{option_or};
-ghost use Rattle.ssa_text.specs.Reading.{nothing, fault_of_form, behind, mention, unit_or_unknown};
+ghost use Rattle.ssa_text.specs.Reading as spec;
+ghost use Rattle.ssa_text.specs.Reading.{nothing, fault_of_form, behind, unit_or_unknown};
 ghost use Rattle.ssa_text.specs.UnitReading as unit;
 ghost use Rattle.ssa_lines.specs.ReadsAs.{ReadsAs};
 
-use crate::partial::{
-    Mention, Mentions, Named, OpenFunc, with_block, with_end, with_value, with_whole,
-};
+use crate::gathered::{Gathered, same_name};
+use crate::partial::{OpenFunc, put_whole};
 use case_text::CasePart;
-use gossa_base::{BlockId, Name, NoMemory, Sequence, ValueId};
-use ssa_ir::{Func, Funcs, Sig, Sigs, SsaUnit, Ty, Value};
-use ssa_lines::{
-    BlockLine, ControlLine, Form, LimitKind, NameSet, NumberSet, Spelled, TextRefusal, ValueLine,
-};
+use gossa_base::{Name, NoMemory, Sequence};
+use ssa_ir::{Func, Sig, SsaUnit, Ty, Value};
+use ssa_lines::{Form, LimitKind, NameSet, NumberSet, Spelled, TextRefusal, ValueLine};
 use std::alloc::Global;
 use std::marker::Model;
 
-/// What was read of a text so far, with tables of the names and the numbers that it gives.
+/// What was read of a text so far.
 #[derive(Drop)]
 pub(crate) struct Reader {
-    sigs: Sigs,
-    funcs: Funcs,
-    func: Option<OpenFunc>,
-    mentions: Mentions,
-    unknown: Option<u32>,
-    names: NameSet,
-    blocks: NumberSet,
-    values: NumberSet,
+    gathered: Gathered,
 }
 
 impl Model for Reader {
-    ghost use Rattle.std.specs.Prelude.{◌≡◌, true, [], map, is_none};
-    ghost use Rattle.ssa_text.specs.Reading.{Read, read_of, names_given, block_ids, values_so_far};
+    ghost use Rattle.ssa_text.specs.Reading.{Read};
+    ghost use Rattle.ssa_text.specs.Gathering.{read_so_far, IsGathered};
 
     ghost Value = { Read };
 
-    ghost view = { λ r. read_of r.sigs r.funcs r.func r.mentions r.unknown };
+    ghost view = { λ r. read_so_far r.gathered };
 
-    ghost invariant = { λ r.
-        (r.names ≡ names_given (read_of r.sigs r.funcs r.func r.mentions r.unknown))
-        × (is_none r.func ≡ true → r.funcs ≡ [])
-        × (r.blocks ≡ map (λ id. id.n) (block_ids r.func))
-        × (r.values ≡ map (λ v. v.id.0) (values_so_far r.func)) };
+    ghost invariant = { λ r. IsGathered r.gathered };
 }
 
 impl Reader {
@@ -59,14 +39,16 @@ impl Reader {
         ensures { result ≡ nothing }
     {
         Reader {
-            sigs: Sequence::new(alloc),
-            funcs: Sequence::new(alloc),
-            func: None,
-            mentions: Sequence::new(alloc),
-            unknown: None,
-            names: NameSet::new(alloc),
-            blocks: NumberSet::new(alloc),
-            values: NumberSet::new(alloc),
+            gathered: Gathered {
+                sigs: Sequence::new(alloc),
+                funcs: Sequence::new(alloc),
+                func: None,
+                mentions: Sequence::new(alloc),
+                unknown: None,
+                names: NameSet::new(alloc),
+                blocks: NumberSet::new(alloc),
+                values: NumberSet::new(alloc),
+            },
         }
     }
 
@@ -96,10 +78,10 @@ impl Reader {
     {
         match form {
             Form::Blank => true,
-            Form::Sig(_) => self.func.is_none(),
-            Form::Func(_) | Form::Case => !has_open_block(&self.func),
-            Form::Block(_) => self.func.is_some() && !has_open_block(&self.func),
-            Form::Value(_) | Form::Control(_) => has_open_block(&self.func),
+            Form::Sig(_) => self.gathered.func.is_none(),
+            Form::Func(_) | Form::Case => !has_open_block(&self.gathered.func),
+            Form::Block(_) => self.gathered.func.is_some() && !has_open_block(&self.gathered.func),
+            Form::Value(_) | Form::Control(_) => has_open_block(&self.gathered.func),
             Form::Bad => false,
         }
     }
@@ -112,7 +94,7 @@ impl Reader {
             Form::Block(_) => true,
             Form::Control(_) => false,
             Form::Blank | Form::Sig(_) | Form::Func(_) | Form::Value(_) | Form::Case | Form::Bad =>
-                has_open_block(&self.func),
+                has_open_block(&self.gathered.func),
         }
     }
 
@@ -121,25 +103,11 @@ impl Reader {
         ensures { result ≡ spec.is_twice self.now form.now }
     {
         match form {
-            Form::Sig(sig) | Form::Func(sig) => self.names.contains(&sig.name),
-            Form::Block(Spelled::Fits(block)) => self.has_block(block.n),
-            Form::Value(ValueLine::Known(value)) => self.has_value(value.id.0),
+            Form::Sig(sig) | Form::Func(sig) => self.gathered.names.contains(&sig.name),
+            Form::Block(Spelled::Fits(block)) => self.gathered.has_block(block.n),
+            Form::Value(ValueLine::Known(value)) => self.gathered.has_value(value.id.0),
             _ => false,
         }
-    }
-
-    // Whether the function that goes on has a block of this number.
-    fn has_block(&self, n: u32) -> bool
-        ensures { result ≡ list_any (λ id. id.n == n) (spec.block_ids self.now.func) }
-    {
-        self.blocks.contains(n)
-    }
-
-    // Whether the function that goes on has a value of this number.
-    fn has_value(&self, n: u32) -> bool
-        ensures { result ≡ list_any (λ v. v.id.0 == n) (spec.values_so_far self.now.func) }
-    {
-        self.values.contains(n)
     }
 
     // The first limit that a line of this form passes.
@@ -147,17 +115,19 @@ impl Reader {
         ensures { result ≡ spec.limit_passed self.now form.now }
     {
         match form {
-            Form::Sig(sig) => full(1024, self.sigs.len(), LimitKind::Sigs).or(sig_limit(sig)),
+            Form::Sig(sig) => full(1024, self.gathered.sigs.len(), LimitKind::Sigs).or(sig_limit(
+                sig,
+            )),
             Form::Func(sig) => {
                 full(256, self.func_count(), LimitKind::Functions).or(sig_limit(sig))
             }
             Form::Block(Spelled::Fits(block)) => full(
                 1024,
-                self.blocks.len(),
+                self.gathered.blocks.len(),
                 LimitKind::Blocks,
             ).or(over(380, block.preds.len(), LimitKind::Args)),
             Form::Value(ValueLine::Known(value)) => {
-                full(8192, self.values.len(), LimitKind::Values).or(value_limit(value))
+                full(8192, self.gathered.values.len(), LimitKind::Values).or(value_limit(value))
             }
             _ => None,
         }
@@ -167,7 +137,7 @@ impl Reader {
     fn func_count(&self) -> usize
         ensures { result ≡ spec.func_count self.now }
     {
-        self.funcs.as_slice().len() + usize::from(self.func.is_some())
+        self.gathered.funcs.as_slice().len() + usize::from(self.gathered.func.is_some())
     }
 
     /// What is read behind a line of this form, which has no fault.
@@ -176,133 +146,17 @@ impl Reader {
         requires once { spec.is_twice self form ≡ false }
         ensures { IfOk result (λ next. next ≡ behind self line form) }
     {
-        match form {
-            Form::Sig(sig) => self.take_sig(sig),
-            Form::Func(sig) => self.take_func(alloc, sig),
-            Form::Block(Spelled::Fits(block)) => self.take_block(alloc, line, block),
-            Form::Value(ValueLine::Known(value)) => self.take_value(line, value),
-            Form::Control(Spelled::Fits(control)) => self.take_control(line, control),
-            _ => Ok(self),
-        }
-    }
-
-    fn take_sig(self, sig: Sig) -> Result<Reader, NoMemory>
-        requires place { spec.in_place self (SigForm sig) ≡ true }
-        requires once { spec.is_twice self (SigForm sig) ≡ false }
-        ensures { IfOk result (λ next. next ≡ behind self 0 (SigForm sig)) }
-    {
-        let mut reader = self;
-        put_name(&mut reader.names, &sig.name)?;
-        reader.sigs.push(sig)?;
-        Ok(reader)
-    }
-
-    fn take_func(self, alloc: Global, sig: Sig) -> Result<Reader, NoMemory>
-        requires place { spec.in_place self (FuncForm sig) ≡ true }
-        requires once { spec.is_twice self (FuncForm sig) ≡ false }
-        ensures { IfOk result (λ next. next ≡ behind self 0 (FuncForm sig)) }
-    {
-        let unknown = self.unknown_line();
-        let mut reader = self;
-        put_name(&mut reader.names, &sig.name)?;
-        reader.funcs = with_whole(reader.funcs, reader.func)?;
-        reader.func = Some(OpenFunc {
-            sig,
-            blocks: Sequence::new(alloc),
-            block: None,
-        });
-        reader.mentions = Sequence::new(alloc);
-        reader.unknown = unknown;
-        reader.blocks.clear();
-        reader.values.clear();
-        Ok(reader)
-    }
-
-    fn take_block(self, alloc: Global, line: u32, block: BlockLine) -> Result<Reader, NoMemory>
-        requires place { spec.in_place self (BlockForm (Fits block)) ≡ true }
-        requires once { spec.is_twice self (BlockForm (Fits block)) ≡ false }
-        ensures { IfOk result (λ next. next ≡ behind self line (BlockForm (Fits block))) }
-    {
-        let number = block.n;
-        let mut reader = self;
-        reader.blocks.insert(number)?;
-        mention_blocks(&mut reader.mentions, line, block.preds.as_slice())?;
-        reader.func = with_block(alloc, reader.func, block);
-        Ok(reader)
-    }
-
-    fn take_value(self, line: u32, value: Value) -> Result<Reader, NoMemory>
-        requires place { spec.in_place self (ValueForm (Known value)) ≡ true }
-        requires once { spec.is_twice self (ValueForm (Known value)) ≡ false }
-        ensures { IfOk result (λ next. next ≡ behind self line (ValueForm (Known value))) }
-    {
-        let number = value.id.0;
-        let mut reader = self;
-        reader.values.insert(number)?;
-        mention_values(&mut reader.mentions, line, value.args.as_slice())?;
-        reader.func = with_value(reader.func, value)?;
-        Ok(reader)
-    }
-
-    fn take_control(self, line: u32, control: ControlLine) -> Result<Reader, NoMemory>
-        requires place { spec.in_place self (ControlForm (Fits control)) ≡ true }
-        ensures { IfOk result (λ next. next ≡ behind self line (ControlForm (Fits control))) }
-    {
-        let mut reader = self;
-        mention_end(&mut reader.mentions, line, &control)?;
-        reader.func = with_end(reader.func, control)?;
-        Ok(reader)
-    }
-
-    // The first line so far that names what its function, which ends here, doesn't have.
-    fn unknown_line(&self) -> Option<u32>
-        requires { spec.has_open_block self.now.func ≡ false }
-        ensures { result ≡ spec.unknown_line self.now }
-    {
-        match self.unknown {
-            Some(line) => Some(line),
-            None => self.unknown_here(),
-        }
-    }
-
-    // The first line of the function that goes on that names what it doesn't have.
-    fn unknown_here(&self) -> Option<u32>
-        requires { spec.has_open_block self.now.func ≡ false }
-        ensures { result ≡ spec.unknown_in self.now.func self.now.mentions }
-    {
-        for mention in self.mentions.as_slice() {
-            if !self.has_named(&mention.named) {
-                return Some(mention.line);
-            }
-        }
-        None
-    }
-
-    // Whether the function that goes on has what a line of it names.
-    fn has_named(&self, named: &Named) -> bool
-        requires { spec.has_open_block self.now.func ≡ false }
-        ensures { result ≡ spec.has_named self.now.func named.now }
-    {
-        match named {
-            Named::OfValue(id) => self.has_value(id.0),
-            Named::OfBlock(id) => self.has_whole_block(*id),
-        }
-    }
-
-    // Whether the function that goes on has this block.
-    fn has_whole_block(&self, id: BlockId) -> bool
-        requires { spec.has_open_block self.now.func ≡ false }
-        ensures { result ≡ spec.has_named self.now.func (OfBlock id) }
-    {
-        self.has_block(id.n)
+        let mut gathered = self.gathered;
+        gathered.take(alloc, line, form)?;
+        Ok(Reader { gathered })
     }
 
     /// The names of the functions that were read.
     pub(crate) fn function_names(&self, alloc: Global) -> Result<Sequence<Name>, NoMemory>
         ensures { IfOk result (λ names. names ≡ unit.function_names self.now) }
     {
-        let names = whole_names(alloc, self.funcs.as_slice())?;
-        with_open_name(names, &self.func)
+        let names = whole_names(alloc, self.gathered.funcs.as_slice())?;
+        with_open_name(names, &self.gathered.func)
     }
 
     /// The unit that was read, with these cases, where all that is named is there.
@@ -312,12 +166,14 @@ impl Reader {
             (record { sigs = self.sigs; funcs = spec.with_whole self.funcs self.func; cases = part.cases })
             (option_or (spec.unknown_line self) part.unknown)) }
     {
-        if let Some(line) = self.unknown_line().or(part.unknown) {
+        let mut gathered = self.gathered;
+        if let Some(line) = gathered.unknown_line().or(part.unknown) {
             return Err(TextRefusal::UnknownRef(line));
         }
+        put_whole(&mut gathered.funcs, gathered.func.take())?;
         Ok(SsaUnit {
-            sigs: self.sigs,
-            funcs: with_whole(self.funcs, self.func)?,
+            sigs: gathered.sigs,
+            funcs: gathered.funcs,
             cases: part.cases,
         })
     }
@@ -346,73 +202,6 @@ fn with_open_name(
         names.push(same_name(&func.sig.name)?)?;
     }
     Ok(names)
-}
-
-// A name behind the others, where it isn't among them.
-fn put_name(names: &mut NameSet, name: &Name) -> Result<(), NoMemory>
-    requires { list_any (λ n. is_same n name.now) names.old ≡ false }
-    ensures { OnOk result (names.new ≡ names.old ++ name.now ∷ []) }
-{
-    names.insert(same_name(name)?)
-}
-
-// A name of its own that is the same.
-fn same_name(name: &Name) -> Result<Name, NoMemory>
-    ensures { IfOk result (λ copy. copy ≡ name.now) }
-{
-    Ok(name.clone()?)
-}
-
-// What a line names: these blocks.
-fn mention_blocks(mentions: &mut Mentions, line: u32, blocks: &[BlockId]) -> Result<(), NoMemory>
-    ensures { OnOk result (mentions.new ≡ mentions.old ++ map (mention line) (map OfBlock blocks.now)) }
-{
-    for block in blocks {
-        mentions.push(Mention {
-            line,
-            named: Named::OfBlock(*block),
-        })?;
-    }
-    Ok(())
-}
-
-// What a line names: these values.
-fn mention_values(mentions: &mut Mentions, line: u32, values: &[ValueId]) -> Result<(), NoMemory>
-    ensures { OnOk result (mentions.new ≡ mentions.old ++ map (mention line) (map OfValue values.now)) }
-{
-    for value in values {
-        mentions.push(Mention {
-            line,
-            named: Named::OfValue(*value),
-        })?;
-    }
-    Ok(())
-}
-
-// What a line names: the control and the successors of the block that ends.
-fn mention_end(mentions: &mut Mentions, line: u32, end: &ControlLine) -> Result<(), NoMemory>
-    ensures { OnOk result (mentions.new ≡ mentions.old
-        ++ map (mention line) (spec.control_mention end.now.control ++ map OfBlock end.now.succs)) }
-{
-    mention_control(mentions, line, end.control)?;
-    mention_blocks(mentions, line, end.succs.as_slice())
-}
-
-// What a line names: this control, if any.
-fn mention_control(
-    mentions: &mut Mentions,
-    line: u32,
-    control: Option<ValueId>,
-) -> Result<(), NoMemory>
-    ensures { OnOk result (mentions.new ≡ mentions.old ++ map (mention line) (spec.control_mention control)) }
-{
-    match control {
-        Some(value) => Ok(mentions.push(Mention {
-            line,
-            named: Named::OfValue(value),
-        })?),
-        None => Ok(()),
-    }
 }
 
 fn has_open_block(func: &Option<OpenFunc>) -> bool

@@ -1,6 +1,6 @@
 use Rattle.std.proofs.Common.{◌≡◌, not, find, drop}
 use Rattle.ssa_text.specs.Reading.{has_named}
-use Rattle.ssa_text.proofs.reader.Reader.unknown_here.Given as goal
+use Rattle.ssa_text.proofs.gathered.Gathered.unknown_here.Given as goal
 
 -- all that was named so far is there
 abbrev pub invariant-loop-mention : goal.invariant-loop-mention

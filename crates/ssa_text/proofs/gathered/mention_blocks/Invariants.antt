@@ -1,7 +1,7 @@
 use Rattle.std.proofs.Common.{◌≡◌, ◌++◌, map, take}
 use Rattle.ssa_text.specs.declared.partial.Named.TheVariants.{OfBlock}
 use Rattle.ssa_text.specs.Reading.{mention}
-use Rattle.ssa_text.proofs.reader.mention_blocks.Given as goal
+use Rattle.ssa_text.proofs.gathered.mention_blocks.Given as goal
 
 -- the mentions so far are appended
 abbrev pub invariant-loop-block : goal.invariant-loop-block

@@ -7,7 +7,7 @@ use Rattle.ssa_ir.specs.declared.op.Op.TheVariants.{Add}
 use Rattle.ssa_ir.specs.declared.op.Width.TheVariants.{W8}
 use Rattle.ssa_ir.specs.OpNames.{op_name}
 use Rattle.ssa_ir.proofs.OpNameLemmas.{searched}
-use Rattle.ssa_ir.proofs.op_names.find.Goals as goal
+use Rattle.ssa_ir.proofs.op_search.find.Goals as goal
 
 -- the closure compares an op's name with the name
 pub returns-in-Ok : goal.returns-in-Ok

@@ -1,7 +1,7 @@
 use Rattle.std.proofs.Common.{◌≡◌, ◌++◌, map, take}
 use Rattle.ssa_text.specs.declared.partial.Named.TheVariants.{OfValue}
 use Rattle.ssa_text.specs.Reading.{mention}
-use Rattle.ssa_text.proofs.reader.mention_values.Given as goal
+use Rattle.ssa_text.proofs.gathered.mention_values.Given as goal
 
 -- the mentions so far are appended
 abbrev pub invariant-loop-value : goal.invariant-loop-value
