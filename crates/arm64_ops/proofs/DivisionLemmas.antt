@@ -1,5 +1,6 @@
 -- The word of a signed quotient.
-use Rattle.std.proofs.Common.{◌≡◌, ℕ, zero, suc, ◌-◌, ◌^◌, ◌/◌, ◌≤◌, ℤ, pos, negsuc, neg_ℤ, unsigned_abs, int_div, refl, subst, sym, ap, ◌∙◌, arith, FitsSigned, w64}
+use Rattle.std.proofs.Common.{◌≡◌, ℕ, zero, suc, ◌-◌, ◌^◌, ◌/◌, ◌≤◌, ℤ, pos, negsuc, neg_ℤ, unsigned_abs, int_div, refl}
+use Rattle.std.proofs.Common.{subst, sym, ap, ◌∙◌, arith, FitsSigned, w64}
 use Rattle.std.specs.Int.{cast_signed, cast_unsigned, int_wrapping_div}
 use Rattle.std.proofs.lemmas.Int.{of_z-to_z, to_z-of_z}
 use Rattle.std.proofs.Math.Nat.{div-le_self}
@@ -33,5 +34,6 @@ pub quotient_word : (x y q : ℤ) (word : ℕ) → FitsSigned w64 x → FitsSign
 quotient_word x y q word fits_x fits_y fits_q quotient unsigned =
     unsigned
     ∙ ap (cast_unsigned w64)
-    (to_z-of_z w64 q fits_q ∙ quotient ∙ (λ i. int_wrapping_div w64 (to_z-of_z w64 x fits_x i) (to_z-of_z w64 y fits_y i)))
+    (to_z-of_z w64 q fits_q ∙ quotient
+    ∙ (λ i. int_wrapping_div w64 (to_z-of_z w64 x fits_x i) (to_z-of_z w64 y fits_y i)))
     ∙ wrapped_word (int_div x y) (omega (arith, quotient_within x y, fits_within x fits_x))

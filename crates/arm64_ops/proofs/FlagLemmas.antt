@@ -1,5 +1,6 @@
 -- The flags of a difference at a width, and what each condition says of them.
-use Rattle.std.proofs.Common.{◌≡◌, ℕ, ◌+◌, ◌-◌, ◌*◌, ◌^◌, ◌<◌, ◌≤◌, Bool, true, false, not, ◌||◌, ◌⊎◌, refl, sym, ap, ap₂, ◌∙◌, subst, arith, mod-lt, mod-eq_of_lt}
+use Rattle.std.proofs.Common.{◌≡◌, ℕ, ◌+◌, ◌-◌, ◌*◌, ◌^◌, ◌<◌, ◌≤◌, Bool, true, false, not, ◌||◌, ◌⊎◌, refl, sym, ap}
+use Rattle.std.proofs.Common.{ap₂, ◌∙◌, subst, arith, mod-lt, mod-eq_of_lt}
 use Rattle.std.specs.Prelude.{ℤ, pos, ◌-ℤ◌, int_lt, int_le, nat_lt, nat_le, ◌==◌, if◌then◌else◌}
 use mathlib.Core.Bool.{beq}
 use Rattle.std.proofs.lemmas.Nat.{and_le_l, pow_pos, pow-add}
@@ -7,8 +8,11 @@ use Rattle.gossa_base.specs.Words.{low, signed_at, word_of}
 use Rattle.ssa_ir.specs.declared.op.CondCode.{CondCode}
 use Rattle.ssa_ir.specs.declared.op.CondCode.TheVariants.{EQ, NE, LT, LE, GT, GE, LO, LS, HI, HS}
 use Rattle.ssa_ir.specs.Arithmetic.{and_at, difference_at, is_at_most, is_equal, is_less, one_where}
-use Rattle.ssa_ir.specs.Conditions.{Flags, compares, differ, fits, flags_in, flags_of_difference, flags_of_test, holds, holds_of, inverse, is_negative, packed}
-use Rattle.arm64_ops.proofs.FlagNumbers.{not_at_most, not_less, Apart, signed_of, overflow, sign_bit, sign_below_zero, zero_difference, equal_or_less, differ_twice, not_above, equal_or_below, neither_below, word_of_difference, difference_rest}
+use Rattle.ssa_ir.specs.Conditions.{Flags, compares, differ, fits, flags_in, flags_of_difference, flags_of_test, holds}
+use Rattle.ssa_ir.specs.Conditions.{holds_of, inverse, is_negative, packed}
+use Rattle.arm64_ops.proofs.FlagNumbers.{not_at_most, not_less, Apart, signed_of, overflow, sign_bit, sign_below_zero}
+use Rattle.arm64_ops.proofs.FlagNumbers.{zero_difference, equal_or_less, differ_twice, not_above, equal_or_below}
+use Rattle.arm64_ops.proofs.FlagNumbers.{neither_below, word_of_difference, difference_rest}
 
 -- ---- a difference at a width
 

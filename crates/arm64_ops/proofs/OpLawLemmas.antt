@@ -1,5 +1,6 @@
 -- Ops of 32 bits read the low halves of their operands, and a remainder is what the product of the quotient leaves.
-use Rattle.std.proofs.Common.{◌≡◌, ℕ, suc, ◌+◌, ◌-◌, ◌*◌, ◌/◌, ◌%◌, ◌^◌, ◌<◌, ◌≤◌, Bool, true, false, nat_lt, sym, ap, ◌∙◌, arith}
+use Rattle.std.proofs.Common.{◌≡◌, ℕ, suc, ◌+◌, ◌-◌, ◌*◌, ◌/◌, ◌%◌, ◌^◌, ◌<◌, ◌≤◌, Bool, true, false, nat_lt, sym, ap}
+use Rattle.std.proofs.Common.{◌∙◌, arith}
 use Rattle.std.specs.Prelude.{ℤ, pos, negsuc, ◌+ℤ◌, ◌-ℤ◌, ◌*ℤ◌, int_div, int_rem, if◌then◌else◌, ◌==◌}
 use Rattle.std.proofs.Math.Nat.{add-mul-mod_self_left, mod-add-mod, mod-eq_of_lt, mod-mod, zero-mod, zero-mul}
 use Rattle.std.proofs.Math.Pow.{mod-mod-pow}
@@ -7,11 +8,13 @@ use Rattle.std.proofs.lemmas.Nat.{div-add-mod', mod_below, mul-mod, mul-mod_seco
 use Rattle.std.proofs.lemmas.Int.{quot-rem}
 use borrow.Author.Differences.{up, down}
 use Rattle.gossa_base.specs.Words.{low, sext, signed_at, StandsFor}
-use Rattle.ssa_ir.specs.Arithmetic.{cut, difference_at, product_at, quotient_at, unsigned_quotient_at, remainder_at, unsigned_remainder_at, sign_extended}
+use Rattle.ssa_ir.specs.Arithmetic.{cut, difference_at, product_at, quotient_at, unsigned_quotient_at, remainder_at}
+use Rattle.ssa_ir.specs.Arithmetic.{unsigned_remainder_at, sign_extended}
 use Rattle.ssa_ir.specs.declared.op.Width.{Width}
 use Rattle.ssa_ir.specs.declared.op.Width.TheVariants.{W8, W16, W32, W64}
 use Rattle.ssa_ir.specs.Widths.{bits}
-use Rattle.arm64_ops.proofs.OpLawResidues.{residue, residue_sum, residue_difference, residue_product, residue_inverted, without}
+use Rattle.arm64_ops.proofs.OpLawResidues.{residue, residue_sum, residue_difference, residue_product, residue_inverted}
+use Rattle.arm64_ops.proofs.OpLawResidues.{without}
 
 -- ---- what is read of the operands: their low k bits
 

@@ -2,7 +2,10 @@
 use Rattle.std.specs.Prelude.{◌≡◌, ℕ, pos}
 use Rattle.gossa_base.specs.Words.{StandsFor}
 use Rattle.ssa_ir.specs.declared.op.Op.{Op}
-use Rattle.ssa_ir.specs.declared.op.Op.TheVariants.{Sub, Mul, Div, DivU, Mod, ModU, SignExt, ZeroExt, Arm64SUB, Arm64MUL, Arm64DIV, Arm64UDIV, Arm64MOD, Arm64UMOD, Arm64MULW, Arm64DIVW, Arm64UDIVW, Arm64MODW, Arm64UMODW, Arm64MOVWreg, Arm64MOVWUreg}
+use Rattle.ssa_ir.specs.declared.op.Op.TheVariants.{Sub, Mul, Div, DivU, Mod, ModU, SignExt, ZeroExt, Arm64SUB}
+use Rattle.ssa_ir.specs.declared.op.Op.TheVariants.{Arm64MUL, Arm64DIV, Arm64UDIV, Arm64MOD, Arm64UMOD, Arm64MULW}
+use Rattle.ssa_ir.specs.declared.op.Op.TheVariants.{Arm64DIVW, Arm64UDIVW, Arm64MODW, Arm64UMODW, Arm64MOVWreg}
+use Rattle.ssa_ir.specs.declared.op.Op.TheVariants.{Arm64MOVWUreg}
 use Rattle.ssa_ir.specs.declared.op.Width.{Width}
 use Rattle.ssa_ir.specs.declared.op.Width.TheVariants.{W32}
 use Rattle.ssa_ir.specs.declared.op.WidthPair.TheVariants.{W32W64}

@@ -13,8 +13,8 @@ fn is_set(flags: u8, i: u32) -> bool
     flags >> i & 1 == 1
 }
 
-/// Whether a condition holds of flags, by the table of conditions in the A64 manual. The flags are the low four bits: N 8,
-/// Z 4, C 2, V 1. Upper bits play no part.
+/// Whether a condition holds of flags, by the table of conditions in the A64 manual. The flags are the low four bits: N
+/// 8, Z 4, C 2, V 1. Upper bits play no part.
 ///
 /// | Condition | holds where |
 /// | --- | --- |

@@ -60,15 +60,15 @@ fn word(number: i64) -> u64
     number.cast_unsigned()
 }
 
-/// The word of a pure op, by the number in its brackets, its first, second and third operand and the flags; operands that
-/// the op lacks play no part. A generic op reads each operand at the width of its class, whatever the upper bits, and
-/// answers at its width; `Copy` and `CondSelect` answer the chosen word whole. An op of the machine answers all 64 bits.
-/// `CMP`, `CMPW`, `CMPconst`, `CMPWconst` and `TSTWconst` answer flags: N 8, Z 4, C 2, V 1. What reads flags has them in
-/// `flags`, and not among its operands. A `CSEL` has its condition in `aux`, as its place in [`CondCode`] from 0, and chooses
-/// 0 where that is none.
+/// The word of a pure op, by the number in its brackets, its first, second and third operand and the flags; operands
+/// that the op lacks play no part. A generic op reads each operand at the width of its class, whatever the upper bits,
+/// and answers at its width; `Copy` and `CondSelect` answer the chosen word whole. An op of the machine answers all 64
+/// bits. `CMP`, `CMPW`, `CMPconst`, `CMPWconst` and `TSTWconst` answer flags: N 8, Z 4, C 2, V 1. What reads flags has
+/// them in `flags`, and not among its operands. A `CSEL` has its condition in `aux`, as its place in [`CondCode`] from
+/// 0, and chooses 0 where that is none.
 ///
-/// Loads, stores, nil checks, calls, phis, parameters and memories are not pure, and an address comes from the case: the
-/// answer for these is 0.
+/// Loads, stores, nil checks, calls, phis, parameters and memories are not pure, and an address comes from the case:
+/// the answer for these is 0.
 pub fn eval(op: Op, aux: i64, a: u64, b: u64, c: u64, flags: u8) -> u64
     ensures { result ≡ spec.eval op aux a b c flags }
 {

@@ -1,7 +1,9 @@
 // What holds of conditions and ops, for all words: each law is a clause of a function without parameters.
 
-ghost use Rattle.arm64_ops.specs.ConditionLaws.{InverseIsAnInvolution, InverseHoldsElsewhere, ConditionsCompare, ConditionsCompareAfterCMP, ConditionsCompareAfterCMPW};
-ghost use Rattle.arm64_ops.specs.OpLaws.{WordFormsAgree, RemaindersAreLeft, UnsignedRemaindersAreLeft, MachineRemaindersAreLeft};
+ghost use Rattle.arm64_ops.specs.ConditionLaws.{InverseIsAnInvolution, InverseHoldsElsewhere, ConditionsCompare};
+ghost use Rattle.arm64_ops.specs.ConditionLaws.{ConditionsCompareAfterCMP, ConditionsCompareAfterCMPW};
+ghost use Rattle.arm64_ops.specs.OpLaws.{WordFormsAgree, RemaindersAreLeft, UnsignedRemaindersAreLeft};
+ghost use Rattle.arm64_ops.specs.OpLaws.{MachineRemaindersAreLeft};
 
 /// The inverse of a condition's inverse is the condition.
 pub fn inverse_is_an_involution()
@@ -13,8 +15,8 @@ pub fn inverse_holds_elsewhere()
     ensures { InverseHoldsElsewhere }
 {}
 
-/// After the flags of a - b each of the ten conditions is the comparison of a and b that it names, signed or unsigned, at
-/// every width of 1 to 64 bits.
+/// After the flags of a - b each of the ten conditions is the comparison of a and b that it names, signed or unsigned,
+/// at every width of 1 to 64 bits.
 pub fn conditions_compare()
     ensures { ConditionsCompare }
 {}
@@ -25,8 +27,8 @@ pub fn conditions_compare_after_cmp()
     ensures at_32 { ConditionsCompareAfterCMPW }
 {}
 
-/// `MULW`, `DIVW`, `UDIVW`, `MODW`, `UMODW`, `MOVWreg` and `MOVWUreg` answer what the generic ops of 32 bits do, whatever
-/// the upper halves of the operands are.
+/// `MULW`, `DIVW`, `UDIVW`, `MODW`, `UMODW`, `MOVWreg` and `MOVWUreg` answer what the generic ops of 32 bits do,
+/// whatever the upper halves of the operands are.
 pub fn word_forms_agree()
     ensures { WordFormsAgree }
 {}

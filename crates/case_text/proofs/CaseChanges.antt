@@ -1,5 +1,6 @@
 -- What a line without a fault leaves of the case that goes on.
-use Rattle.std.proofs.Common.{◌≡◌, ℕ, ◌+◌, ◌<◌, ◌≤◌, false, List, [], ◌∷◌, ◌++◌, length, unwrap_or, All, Option, None, Some, refl, sym, ap, ◌∙◌, subst, arith}
+use Rattle.std.proofs.Common.{◌≡◌, ℕ, ◌+◌, ◌<◌, ◌≤◌, false, List, [], ◌∷◌, ◌++◌, length, unwrap_or, All, Option, None}
+use Rattle.std.proofs.Common.{Some, refl, sym, ap, ◌∙◌, subst, arith}
 use Rattle.std.specs.List.{list_any}
 use Rattle.std.specs.Cmp.Lexicographic.{same_text}
 use Rattle.std.proofs.lemmas.Bool.{or_parts}
@@ -7,13 +8,16 @@ use Rattle.std.proofs.lemmas.List.{length-append}
 use Rattle.std.proofs.lemmas.List.Elements.{All-nil, All-cons, All-append, All-push, All-pop}
 use Rattle.std.proofs.lemmas.List.Quantifiers.{all_pairs_push, position-Some}
 use Rattle.std.proofs.lemmas.List.Sums.{sum_by_push}
+use Rattle.ssa_ir.specs.declared.limits.TheConstants.{MAX_BOUND, MAX_CASE_BYTES, MAX_JUNK_WORDS, MAX_REPLIES}
 use Rattle.ssa_ir.specs.Limits.{bytes_in}
 use Rattle.ssa_ir.specs.Names.{IsName}
 use Rattle.ssa_ir.specs.declared.case.Piece.{Piece}
 use Rattle.ssa_ir.specs.declared.case.Junk.{Junk}
 use Rattle.ssa_ir.specs.declared.case.Reply.{Reply}
 use Rattle.ssa_lines.specs.Words.{is_same}
-use Rattle.case_text.specs.CaseReading.{function_of, absent_at, no_junk, more_junk, filled, begin_case, begun_reply, whole_reply, with_reply, reply_junk_given, change_reply, give_write, give_reply_junk, give_reply_fill, give_clobber}
+use Rattle.case_text.specs.CaseReading.{function_of, absent_at, no_junk, more_junk, filled, begin_case, begun_reply}
+use Rattle.case_text.specs.CaseReading.{whole_reply, with_reply, reply_junk_given, change_reply, give_write}
+use Rattle.case_text.specs.CaseReading.{give_reply_junk, give_reply_fill, give_clobber}
 use Rattle.case_text.specs.CaseText.{name_at}
 use Rattle.case_text.specs.declared.forms.CaseHead.{CaseHead}
 use Rattle.case_text.specs.declared.forms.SymLine.{SymLine}
@@ -26,7 +30,7 @@ use Rattle.case_text.proofs.CasesKept.{HeadKept, SymsKept, bytes_of, MemoryKept,
 
 -- a function that was found is there, and has the name that was looked for
 pub head_found : (names : List (List ℕ)) (name : List ℕ) (bound line : ℕ) (func : Option ℕ)
-    → function_of names name ≡ func → absent_at line func ≡ None → IsName name → bound ≤ 1000000
+    → function_of names name ≡ func → absent_at line func ≡ None → IsName name → bound ≤ MAX_BOUND
     → HeadKept names (unwrap_or func 0) bound
 head_found names name bound line None e absent named few = cc
 head_found names name bound line (Some i) e absent named few =
@@ -80,7 +84,8 @@ sym_more s syms form new kept = record {
 -- ---- junk
 
 -- more words of junk, and another fill
-pub junk_more : (words : List ℕ) (j : Junk) → All IsWord words → length j.words + length words ≤ 8192 → JunkFacts j
+pub junk_more : (words : List ℕ) (j : Junk) → All IsWord words → length j.words + length words ≤ MAX_JUNK_WORDS
+    → JunkFacts j
     → JunkFacts (more_junk words j)
 junk_more words j each few facts = record {
   words = All-append IsWord j.words words facts.words each;
@@ -102,7 +107,8 @@ one_more_reply mem replies r = omega (arith, sum_by_push (λ (q : Reply). bytes_
 
 -- one more piece of memory
 pub piece_more : (mem : List Piece) (replies : List Reply) (p : Piece) → PieceFacts p
-    → bytes_of mem replies + length p.bytes ≤ 65536 → MemoryKept mem replies → MemoryKept (mem ++ p ∷ []) replies
+    → bytes_of mem replies + length p.bytes ≤ MAX_CASE_BYTES → MemoryKept mem replies
+    → MemoryKept (mem ++ p ∷ []) replies
 piece_more mem replies p facts room kept = record {
   pieces = All-push PieceFacts mem p kept.pieces facts;
   each = kept.each;
@@ -111,11 +117,12 @@ piece_more mem replies p facts room kept = record {
 }
 
 -- a reply that begins
-pub reply_more : (mem : List Piece) (replies : List Reply) (words : List ℕ) → FewWords words → length replies < 4096
+pub reply_more : (mem : List Piece) (replies : List Reply) (words : List ℕ) → FewWords words
+    → length replies < MAX_REPLIES
     → MemoryKept mem replies → MemoryKept mem (replies ++ whole_reply (begun_reply words) ∷ [])
 reply_more mem replies words form room kept =
     let r : Reply = whole_reply (begun_reply words) in
-    let few : bytes_of mem replies ≤ 65536 = kept.few_bytes in
+    let few : bytes_of mem replies ≤ MAX_CASE_BYTES = kept.few_bytes in
     let facts : ReplyFacts r = record {
       words = form.each;
       few = form.few;
@@ -131,11 +138,11 @@ reply_more mem replies words form room kept =
 
 -- the last reply is changed, and has n more bytes then
 reply_changed : (mem : List Piece) (replies : List Reply) (r s : Reply) (n : ℕ) → (ReplyFacts r → ReplyFacts s)
-    → bytes_in s.writes ≡ bytes_in r.writes + n → bytes_of mem (replies ++ r ∷ []) + n ≤ 65536
+    → bytes_in s.writes ≡ bytes_in r.writes + n → bytes_of mem (replies ++ r ∷ []) + n ≤ MAX_CASE_BYTES
     → MemoryKept mem (replies ++ r ∷ []) → MemoryKept mem (replies ++ s ∷ [])
 reply_changed mem replies r s n keeps more room kept =
     let parts = All-pop ReplyFacts (replies ++ r ∷ []) replies (Some r) refl kept.each in
-    let few : length (replies ++ r ∷ []) ≤ 4096 = kept.few in record {
+    let few : length (replies ++ r ∷ []) ≤ MAX_REPLIES = kept.few in record {
       pieces = kept.pieces;
       each = All-push ReplyFacts replies s parts.0 (keeps parts.1);
       few = omega (arith, length-append replies (r ∷ []), length-append replies (s ∷ []));
@@ -146,12 +153,12 @@ reply_changed mem replies r s n keeps more room kept =
 reply_kept : (mem : List Piece) (replies : List Reply) (r s : Reply) → (ReplyFacts r → ReplyFacts s)
     → bytes_in s.writes ≡ bytes_in r.writes → MemoryKept mem (replies ++ r ∷ []) → MemoryKept mem (replies ++ s ∷ [])
 reply_kept mem replies r s keeps same kept =
-    let few : bytes_of mem (replies ++ r ∷ []) ≤ 65536 = kept.few_bytes in
+    let few : bytes_of mem (replies ++ r ∷ []) ≤ MAX_CASE_BYTES = kept.few_bytes in
     reply_changed mem replies r s 0 keeps (omega arith) (omega arith) kept
 
 -- one more piece that the reply writes
 pub write_more : (mem : List Piece) (replies : List Reply) (o : Option OpenReply) (p : Piece) → PieceFacts p
-    → bytes_of mem (with_reply replies o) + length p.bytes ≤ 65536 → MemoryKept mem (with_reply replies o)
+    → bytes_of mem (with_reply replies o) + length p.bytes ≤ MAX_CASE_BYTES → MemoryKept mem (with_reply replies o)
     → MemoryKept mem (with_reply replies (change_reply (give_write p) o))
 write_more mem replies None p facts room kept = kept
 write_more mem replies (Some r) p facts room kept =
@@ -167,7 +174,8 @@ write_more mem replies (Some r) p facts room kept =
 
 -- what the reply leaves
 pub reply_junk_more : (mem : List Piece) (replies : List Reply) (o : Option OpenReply) (words : List ℕ)
-    → All IsWord words → length (reply_junk_given o) + length words ≤ 8192 → MemoryKept mem (with_reply replies o)
+    → All IsWord words → length (reply_junk_given o) + length words ≤ MAX_JUNK_WORDS
+    → MemoryKept mem (with_reply replies o)
     → MemoryKept mem (with_reply replies (change_reply (give_reply_junk words) o))
 reply_junk_more mem replies None words each few kept = kept
 reply_junk_more mem replies (Some r) words each few kept =

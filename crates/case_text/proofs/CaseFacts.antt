@@ -1,6 +1,8 @@
 -- What is known of cases that were read.
 use Rattle.std.specs.Prelude.{◌≡◌, ℕ, ◌≤◌, ◌<◌, ◌+◌, ◌^◌, false, List, length, Some}
 use Rattle.std.specs.List.{All, AllPairs, sum_by}
+use Rattle.ssa_ir.specs.declared.limits.TheConstants.{MAX_BOUND, MAX_CASES, MAX_CASE_BYTES, MAX_JUNK_WORDS}
+use Rattle.ssa_ir.specs.declared.limits.TheConstants.{MAX_PIECE_BYTES, MAX_REPLIES, MAX_WORDS}
 use Rattle.ssa_ir.specs.Limits.{bytes_in}
 use Rattle.ssa_ir.specs.Names.{IsName}
 use Rattle.ssa_ir.specs.declared.case.Piece.{Piece}
@@ -17,17 +19,17 @@ IsWord w = w < 2 ^ 64
 pub record PieceFacts (p : Piece) : Type 0 where
   pub addr : IsWord p.addr
   pub some : 0 < length p.bytes
-  pub few : length p.bytes ≤ 1024
+  pub few : length p.bytes ≤ MAX_PIECE_BYTES
   pub bytes : All (λ b. b < 256) p.bytes
 
 pub record JunkFacts (j : Junk) : Type 0 where
   pub words : All IsWord j.words
-  pub few : length j.words ≤ 8192
+  pub few : length j.words ≤ MAX_JUNK_WORDS
   pub fill : IsWord j.fill
 
 pub record ReplyFacts (r : Reply) : Type 0 where
   pub words : All IsWord r.words
-  pub few : length r.words ≤ 64
+  pub few : length r.words ≤ MAX_WORDS
   pub writes : All PieceFacts r.writes
   pub junk : JunkFacts r.junk
   pub clobber : IsWord r.clobber
@@ -41,17 +43,17 @@ pub record CaseFacts (names : List (List ℕ)) (c : Case) : Type 0 where
   pub func : c.func < length names
   pub found : function_of names (name_at names c.func) ≡ Some c.func
   pub name : IsName (name_at names c.func)
-  pub bound : c.bound ≤ 1000000
+  pub bound : c.bound ≤ MAX_BOUND
   pub args : All IsWord c.args
-  pub few_args : length c.args ≤ 64
+  pub few_args : length c.args ≤ MAX_WORDS
   pub syms : All SymFacts c.syms
   pub syms_differ : AllPairs (λ (s t : List ℕ × ℕ). is_same s.0 t.0 ≡ false) c.syms
   pub mem : All PieceFacts c.mem
   pub junk : JunkFacts c.junk
   pub replies : All ReplyFacts c.replies
-  pub few_replies : length c.replies ≤ 4096
-  pub few_bytes : bytes_in c.mem + sum_by (λ (r : Reply). bytes_in r.writes) c.replies ≤ 65536
+  pub few_replies : length c.replies ≤ MAX_REPLIES
+  pub few_bytes : bytes_in c.mem + sum_by (λ (r : Reply). bytes_in r.writes) c.replies ≤ MAX_CASE_BYTES
 
 pub record CasesFacts (names : List (List ℕ)) (cases : List Case) : Type 0 where
-  pub few : length cases ≤ 64
+  pub few : length cases ≤ MAX_CASES
   pub each : All (CaseFacts names) cases

@@ -1,18 +1,20 @@
 -- What is known of a line among cases by its form: its integers are words of 64 bits, and its names have their form.
 use Rattle.std.proofs.Common.{ℕ, ◌<◌, ◌≤◌, List, length, All}
+use Rattle.ssa_ir.specs.declared.limits.TheConstants.{MAX_WORDS}
 use Rattle.ssa_ir.specs.Names.{IsName}
 use Rattle.ssa_ir.specs.declared.case.Piece.{Piece}
 use Rattle.ssa_lines.proofs.NumberFactsLemmas.{IfFits}
 use Rattle.case_text.specs.declared.forms.CaseHead.{CaseHead}
 use Rattle.case_text.specs.declared.forms.SymLine.{SymLine}
 use Rattle.case_text.specs.declared.forms.CaseForm.{CaseForm}
-use Rattle.case_text.specs.declared.forms.CaseForm.TheVariants.{Blank, Head, Args, Sym, Mem, Junk, Fill, Reply, Write, ReplyJunk, ReplyFill, Clobber, Bad}
+use Rattle.case_text.specs.declared.forms.CaseForm.TheVariants.{Blank, Head, Args, Sym, Mem, Junk, Fill, Reply, Write}
+use Rattle.case_text.specs.declared.forms.CaseForm.TheVariants.{ReplyJunk, ReplyFill, Clobber, Bad}
 use Rattle.case_text.proofs.CaseFacts.{IsWord}
 
 -- words of which no more are kept
 pub record FewWords (words : List ℕ) : Type 0 where
   pub each : All IsWord words
-  pub few : length words ≤ 64
+  pub few : length words ≤ MAX_WORDS
 
 -- one or more bytes
 pub record SomeBytes (bytes : List ℕ) : Type 0 where

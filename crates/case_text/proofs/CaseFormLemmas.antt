@@ -1,5 +1,6 @@
 -- Each line among cases has the facts of its form.
-use Rattle.std.proofs.Common.{◌≡◌, ℕ, Bool, true, false, nat_eq, nat_le, if◌then◌else◌, List, [], ◌∷◌, codes, length, Option, None, Some, IfSome, refl}
+use Rattle.std.proofs.Common.{◌≡◌, ℕ, Bool, true, false, nat_eq, nat_le, if◌then◌else◌, List, [], ◌∷◌, codes, length}
+use Rattle.std.proofs.Common.{Option, None, Some, IfSome, refl}
 use Rattle.std.specs.List.{starts_with}
 use Rattle.std.proofs.lemmas.Bool.{and_parts, leb-true}
 use Rattle.ssa_ir.specs.Names.{IsName, has_name_bytes}
@@ -10,14 +11,18 @@ use Rattle.ssa_lines.specs.Words.{is_same}
 use Rattle.ssa_lines.specs.declared.forms.Spelled.{Spelled}
 use Rattle.ssa_lines.proofs.GrammarLemmas.{then_shown}
 use Rattle.ssa_lines.proofs.NumberFactsLemmas.{IfFits}
-use Rattle.case_text.specs.CaseForms.{word_in, words_in, first_words_in, only_word, some_bytes_in, piece, piece_in, head_of, head_in, sym_of, sym_in, or_bad_line, reply_line, keyword_line, case_form_of}
+use Rattle.case_text.specs.CaseForms.{word_in, words_in, first_words_in, only_word, some_bytes_in, piece, piece_in}
+use Rattle.case_text.specs.CaseForms.{head_of, head_in, sym_of, sym_in, or_bad_line, reply_line, keyword_line}
+use Rattle.case_text.specs.CaseForms.{case_form_of}
 use Rattle.case_text.specs.declared.forms.CaseHead.{CaseHead}
 use Rattle.case_text.specs.declared.forms.SymLine.{SymLine}
 use Rattle.case_text.specs.declared.forms.CaseForm.{CaseForm}
-use Rattle.case_text.specs.declared.forms.CaseForm.TheVariants.{Blank, Head, Args, Sym, Mem, Junk, Fill, Reply, Write, ReplyJunk, ReplyFill, Clobber, Bad}
+use Rattle.case_text.specs.declared.forms.CaseForm.TheVariants.{Blank, Head, Args, Sym, Mem, Junk, Fill, Reply, Write}
+use Rattle.case_text.specs.declared.forms.CaseForm.TheVariants.{ReplyJunk, ReplyFill, Clobber, Bad}
 use Rattle.case_text.proofs.CaseFacts.{IsWord}
 use Rattle.case_text.proofs.CaseFormFacts.{FewWords, PieceForm, HeadForm, SymForm, CaseFormFacts}
-use Rattle.case_text.proofs.CaseWordLemmas.{word_shown, made, Words, words_shown, first_words_shown, only_shown, some_bytes_shown}
+use Rattle.case_text.proofs.CaseWordLemmas.{word_shown, made, Words, words_shown, first_words_shown, only_shown}
+use Rattle.case_text.proofs.CaseWordLemmas.{some_bytes_shown}
 
 abbrev PieceShown : Spelled Piece → Type 0
 PieceShown p = IfFits p PieceForm

@@ -1,5 +1,7 @@
 -- The lines of what a case gives beside replies lead from its first line on to the case that has all that.
-use Rattle.std.proofs.Common.{◌≡◌, ◌==◌, ℕ, suc, ◌+◌, ◌≤◌, ◌<◌, false, not, cond, List, [], ◌∷◌, ◌++◌, length, length-append, codes, Bool, None, Some, All, refl, sym, ap, subst, arith, append_assoc, append-nil}
+use Rattle.std.proofs.Common.{◌≡◌, ◌==◌, ℕ, suc, ◌+◌, ◌≤◌, ◌<◌, false, not, cond, List, [], ◌∷◌, ◌++◌, length}
+use Rattle.std.proofs.Common.{length-append, codes, Bool, None, Some, All, refl, sym, ap, subst, arith, append_assoc}
+use Rattle.std.proofs.Common.{append-nil}
 use Rattle.std.specs.List.{AllPairs, flat_map, list_any, sum_by}
 use Rattle.std.specs.Option.{option_or}
 use Rattle.std.proofs.Math.Seq.{get_or-append_seam}
@@ -7,6 +9,7 @@ use Rattle.std.proofs.lemmas.Bool.{le-ltb, lt-leb, or_from}
 use Rattle.std.proofs.lemmas.List.Elements.{All-head, All-tail}
 use Rattle.std.proofs.lemmas.List.Sums.{sum_by_push}
 use Rattle.gossa_base.specs.Texts.{hex_text}
+use Rattle.ssa_ir.specs.declared.limits.TheConstants.{MAX_CASE_BYTES, MAX_JUNK_WORDS, MAX_PIECE_BYTES, MAX_WORDS}
 use Rattle.ssa_ir.specs.Limits.{bytes_in}
 use Rattle.ssa_ir.specs.declared.case.Case.{Case}
 use Rattle.ssa_ir.specs.declared.case.Junk.{Junk}
@@ -18,12 +21,14 @@ use Rattle.ssa_lines.specs.declared.forms.Spelled.TheVariants.{Fits}
 use Rattle.ssa_lines.specs.declared.refusal.LimitKind.{LimitKind}
 use Rattle.ssa_lines.specs.declared.refusal.LimitKind.TheVariants.{MemBytes, JunkWords}
 use Rattle.case_text.specs.CaseForms.{head_of, sym_of}
-use Rattle.case_text.specs.CaseReading.{CasesRead, cases_read, bytes_given, with_reply, memory_limit, no_junk, begin_case}
+use Rattle.case_text.specs.CaseReading.{CasesRead, cases_read, bytes_given, with_reply, memory_limit, no_junk}
+use Rattle.case_text.specs.CaseReading.{begin_case}
 use Rattle.case_text.specs.CaseText.{words_text, words_line, args_text, symbol_line, piece_line, junk_text, inputs_text}
 use Rattle.case_text.specs.declared.forms.CaseForm.TheVariants.{Args, Sym, Mem, Junk as JunkForm, Fill}
 use Rattle.case_text.specs.declared.partial.OpenCase.{OpenCase}
 use Rattle.case_text.proofs.CaseFacts.{IsWord, PieceFacts, JunkFacts, SymFacts, CaseFacts}
-use Rattle.case_text.proofs.CaseLineTexts.{words_line_ended, two_words_line, two_words_ended, spells_args, spells_sym, spells_mem, spells_junk, spells_fill}
+use Rattle.case_text.proofs.CaseLineTexts.{words_line_ended, two_words_line, two_words_ended, spells_args, spells_sym}
+use Rattle.case_text.proofs.CaseLineTexts.{spells_mem, spells_junk, spells_fill}
 use Rattle.case_text.proofs.CaseParts.{leads_text, leads_same, pieces_lead, junk_leads}
 use Rattle.case_text.proofs.CaseSteps.{CasePasses, Leads, leads_nowhere, leads_append}
 
@@ -34,12 +39,12 @@ not_over limit count kind few = ap (λ t. cond t (Some kind) None) (le-ltb limit
 pub not_full : (limit count : ℕ) (kind : LimitKind) → count < limit → full limit count kind ≡ None
 not_full limit count kind few = ap (λ t. cond t (Some kind) None) (lt-leb limit count few)
 
-pub memory_fits : (r : CasesRead) (p : Piece) → length p.bytes ≤ 1024 →
-    bytes_given r.current + length p.bytes ≤ 65536 → memory_limit r p ≡ None
+pub memory_fits : (r : CasesRead) (p : Piece) → length p.bytes ≤ MAX_PIECE_BYTES →
+    bytes_given r.current + length p.bytes ≤ MAX_CASE_BYTES → memory_limit r p ≡ None
 memory_fits r p line all =
     λ i.
-    option_or (not_over 1024 (length p.bytes) MemBytes line i)
-    (not_over 65536 (bytes_given r.current + length p.bytes) MemBytes all i)
+    option_or (not_over MAX_PIECE_BYTES (length p.bytes) MemBytes line i)
+    (not_over MAX_CASE_BYTES (bytes_given r.current + length p.bytes) MemBytes all i)
 
 -- symbols of different names
 
@@ -97,7 +102,7 @@ open_case c = record {
 
 module _ (names : List (List ℕ)) (cases : List Case) where
   -- the parameters' words
-  args_lead : (o : OpenCase) (words : List ℕ) → All IsWord words → length words ≤ 64 →
+  args_lead : (o : OpenCase) (words : List ℕ) → All IsWord words → length words ≤ MAX_WORDS →
       Leads names (args_text words) (going cases (with_args o [])) (going cases (with_args o words))
   args_lead o [] all few = leads_nowhere names (going cases (with_args o []))
   args_lead o (w ∷ words) all few =
@@ -137,14 +142,14 @@ module _ (names : List (List ℕ)) (cases : List Case) where
 
   -- memory, where no reply was given
   mem_leads : (o : OpenCase) (pieces : List Piece) → All PieceFacts pieces → o.replies ≡ [] → o.reply ≡ None →
-      bytes_in pieces ≤ 65536 →
+      bytes_in pieces ≤ MAX_CASE_BYTES →
       Leads names (flat_map (piece_line (codes "mem")) pieces) (going cases (with_mem o []))
       (going cases (with_mem o pieces))
   mem_leads o pieces all no_replies no_reply few =
       pieces_lead names (codes "mem") (λ p. Mem (Fits p)) (λ l. going cases (with_mem o l)) 0 spells_mem pass
       (λ given p n. refl) [] pieces all (omega arith)
     where
-      pass : (given : List Piece) (p : Piece) → PieceFacts p → 0 + bytes_in (given ++ p ∷ []) ≤ 65536 →
+      pass : (given : List Piece) (p : Piece) → PieceFacts p → 0 + bytes_in (given ++ p ∷ []) ≤ MAX_CASE_BYTES →
           CasePasses (going cases (with_mem o given)) (Mem (Fits p))
       pass given p h room =
           let others : ℕ = sum_by (λ (r : Reply). bytes_in r.writes) (with_reply o.replies o.reply) in
@@ -168,13 +173,13 @@ module _ (names : List (List ℕ)) (cases : List Case) where
       (λ i given. going cases (with_junk o i given)) spells_junk pass (λ i row n. refl) spells_fill
       (λ i w. record { placed = refl; fits = refl; once = refl; within = refl }) (λ i w n. refl) j h
     where
-      pass : (i : Junk) (row : List ℕ) → length i.words + length row ≤ 8192 →
+      pass : (i : Junk) (row : List ℕ) → length i.words + length row ≤ MAX_JUNK_WORDS →
           CasePasses (going cases (with_junk o i false)) (JunkForm (Fits row))
       pass i row few = record {
         placed = refl;
         fits = refl;
         once = refl;
-        within = not_over 8192 (length i.words + length row) JunkWords few;
+        within = not_over MAX_JUNK_WORDS (length i.words + length row) JunkWords few;
       }
 
   -- all that a case gives beside replies

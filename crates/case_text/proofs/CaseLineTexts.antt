@@ -1,7 +1,9 @@
 -- The printed lines of cases spell what they were printed from.
-use Rattle.std.proofs.Common.{◌≡◌, ℕ, ◌+◌, ◌≤◌, true, cond, List, [], ◌∷◌, ◌++◌, length, map, codes, decimal, None, Some, option_map, All, refl, sym, ap, ◌∙◌, arith, append_assoc}
+use Rattle.std.proofs.Common.{◌≡◌, ℕ, ◌+◌, ◌≤◌, true, cond, List, [], ◌∷◌, ◌++◌, length, map, codes, decimal, None}
+use Rattle.std.proofs.Common.{Some, option_map, All, refl, sym, ap, ◌∙◌, arith, append_assoc}
 use Rattle.std.proofs.Math.Seq.{take_all}
 use Rattle.std.proofs.lemmas.List.Elements.{All-head, All-tail, All-weaker, All-from_recursion}
+use Rattle.ssa_ir.specs.declared.limits.TheConstants.{MAX_BOUND, MAX_LINE_BYTES, MAX_PIECE_BYTES, MAX_WORDS}
 use Rattle.gossa_base.specs.Texts.{hex_text, hex_bytes_text}
 use Rattle.ssa_ir.specs.declared.case.Piece.{Piece}
 use Rattle.ssa_ir.specs.Names.{IsName}
@@ -13,13 +15,18 @@ use Rattle.ssa_lines.specs.Words.{words_of}
 use Rattle.ssa_lines.specs.declared.forms.Spelled.TheVariants.{Fits}
 use Rattle.ssa_lines.specs.declared.numbers.Integer.{Integer}
 use Rattle.ssa_lines.specs.declared.numbers.Integer.TheVariants.{Word}
-use Rattle.ssa_lines.proofs.LineBytes.{allowed_if_plain, no_newline_if_plain, IsPlainWord, words_of-front_led, AllPlain-led, length-led, words_of-spaced}
+use Rattle.ssa_lines.proofs.LineBytes.{allowed_if_plain, no_newline_if_plain, IsPlainWord, words_of-front_led}
+use Rattle.ssa_lines.proofs.LineBytes.{AllPlain-led, length-led, words_of-spaced}
 use Rattle.ssa_lines.proofs.LineLemmas.{HasNoNewline}
-use Rattle.ssa_lines.proofs.WordTexts.{short_word, longer_word, IsPlainText, text_of_word, known_text, text_append, name_is_word, is_name-name}
-use Rattle.case_text.specs.CaseForms.{case_form_of, or_bad_line, word_in, with_word, words_in, before_word, first_64, only_word, piece, piece_in, some_bytes_in, head_of, head_in, sym_of, sym_in}
+use Rattle.ssa_lines.proofs.WordTexts.{short_word, longer_word, IsPlainText, text_of_word, known_text, text_append}
+use Rattle.ssa_lines.proofs.WordTexts.{name_is_word, is_name-name}
+use Rattle.case_text.specs.CaseForms.{case_form_of, or_bad_line, word_in, with_word, words_in, before_word, first_kept}
+use Rattle.case_text.specs.CaseForms.{only_word, piece, piece_in, some_bytes_in, head_of, head_in, sym_of, sym_in}
 use Rattle.case_text.specs.CaseText.{words_text, words_line}
 use Rattle.case_text.specs.declared.forms.CaseForm.{CaseForm}
-use Rattle.case_text.specs.declared.forms.CaseForm.TheVariants.{Head, Args, Sym, Mem, Junk as JunkForm, Fill, Reply as ReplyForm, Write, ReplyJunk, ReplyFill, Clobber}
+use Rattle.case_text.specs.declared.forms.CaseForm.TheVariants.{Head, Args, Sym, Mem, Junk as JunkForm, Fill}
+use Rattle.case_text.specs.declared.forms.CaseForm.TheVariants.{Reply as ReplyForm, Write, ReplyJunk, ReplyFill}
+use Rattle.case_text.specs.declared.forms.CaseForm.TheVariants.{Clobber}
 use Rattle.case_text.proofs.CaseFacts.{IsWord, PieceFacts}
 use Rattle.case_text.proofs.HexTexts.{hex_is_word, decimal_is_word, word_in-hex, word_in-decimal}
 use Rattle.case_text.proofs.HexByteTexts.{hex_bytes_are_word, some_bytes_in-hex_bytes}
@@ -28,11 +35,12 @@ use Rattle.case_text.proofs.HexByteTexts.{hex_bytes_are_word, some_bytes_in-hex_
 pub record SpellsCase (line : List ℕ) (form : CaseForm) : Type 0 where
   pub form_is : case_form_of (words_of line) ≡ form
   pub allowed : is_allowed line ≡ true
-  pub short : length line ≤ 4096
+  pub short : length line ≤ MAX_LINE_BYTES
   pub one_line : HasNoNewline line
 
 -- a line of plain bytes spells the form of its words
-spells_plain : (line : List ℕ) (form : CaseForm) → case_form_of (words_of line) ≡ form → IsPlainText 4096 line →
+spells_plain : (line : List ℕ) (form : CaseForm) → case_form_of (words_of line) ≡ form → IsPlainText MAX_LINE_BYTES line
+    →
     SpellsCase line form
 spells_plain line form e h = record {
   form_is = e;
@@ -51,9 +59,9 @@ words_in-hex (w ∷ words) all =
     let later = words_in-hex words (All-tail IsWord w words all) in
     (λ i. before_word (here i) (later i))
 
--- a line of at most 64 words behind its keyword
+-- a line of at most `MAX_WORDS` words behind its keyword
 spells_words : (keyword words : List ℕ) (form : CaseForm) → IsPlainWord 5 keyword → All IsWord words →
-    length words ≤ 64 → case_form_of (keyword ∷ map hex_text words) ≡ form →
+    length words ≤ MAX_WORDS → case_form_of (keyword ∷ map hex_text words) ≡ form →
     SpellsCase (keyword ++ words_text words) form
 spells_words keyword words form h all few e =
     let each : All (λ w. IsPlainWord 18 (hex_text w)) words =
@@ -69,30 +77,31 @@ spells_words keyword words form h all few e =
     ∙ e)
     (record { short = omega (arith, text.short); plain = text.plain })
 
--- the first 64 of at most 64 words are all
-first_words_fit : (words : List ℕ) → length words ≤ 64 → first_64 (Fits words) ≡ Fits words
-first_words_fit words few = ap (λ kept. Fits kept) (take_all 64 words few)
+-- the first of at most as many words are all
+first_words_fit : (words : List ℕ) → length words ≤ MAX_WORDS → first_kept (Fits words) ≡ Fits words
+first_words_fit words few = ap (λ kept. Fits kept) (take_all MAX_WORDS words few)
 
-pub spells_args : (words : List ℕ) → All IsWord words → length words ≤ 64 →
+pub spells_args : (words : List ℕ) → All IsWord words → length words ≤ MAX_WORDS →
     SpellsCase (codes "args" ++ words_text words) (Args (Fits words))
 spells_args words all few =
     spells_words (codes "args") words (Args (Fits words)) (short_word 5 (codes "args") refl) all few
-    (ap (λ o. or_bad_line Args (option_map first_64 o)) (words_in-hex words all) ∙ ap Args (first_words_fit words few))
+    (ap (λ o. or_bad_line Args (option_map first_kept o)) (words_in-hex words all)
+    ∙ ap Args (first_words_fit words few))
 
-pub spells_reply : (words : List ℕ) → All IsWord words → length words ≤ 64 →
+pub spells_reply : (words : List ℕ) → All IsWord words → length words ≤ MAX_WORDS →
     SpellsCase (codes "reply" ++ words_text words) (ReplyForm (Fits words))
 spells_reply words all few =
     spells_words (codes "reply") words (ReplyForm (Fits words)) (short_word 5 (codes "reply") refl) all few
-    (ap (λ o. or_bad_line ReplyForm (option_map first_64 o)) (words_in-hex words all)
+    (ap (λ o. or_bad_line ReplyForm (option_map first_kept o)) (words_in-hex words all)
     ∙ ap ReplyForm (first_words_fit words few))
 
-pub spells_junk : (words : List ℕ) → All IsWord words → length words ≤ 64 →
+pub spells_junk : (words : List ℕ) → All IsWord words → length words ≤ MAX_WORDS →
     SpellsCase (codes "junk" ++ words_text words) (JunkForm (Fits words))
 spells_junk words all few =
     spells_words (codes "junk") words (JunkForm (Fits words)) (short_word 5 (codes "junk") refl) all few
     (ap (or_bad_line JunkForm) (words_in-hex words all))
 
-pub spells_reply_junk : (words : List ℕ) → All IsWord words → length words ≤ 64 →
+pub spells_reply_junk : (words : List ℕ) → All IsWord words → length words ≤ MAX_WORDS →
     SpellsCase (codes "rjunk" ++ words_text words) (ReplyJunk (Fits words))
 spells_reply_junk words all few =
     spells_words (codes "rjunk") words (ReplyJunk (Fits words)) (short_word 5 (codes "rjunk") refl) all few
@@ -168,13 +177,13 @@ spells_two most more keyword first second form h k l few e =
 name_is_checked : (name : List ℕ) → IsName name → checked_name name ≡ Some name
 name_is_checked name h = ap (λ t. cond t (Some name) None) (is_name-name name h)
 
-head_read : (name : List ℕ) (bound : ℕ) → IsName name → bound ≤ 1000000 →
+head_read : (name : List ℕ) (bound : ℕ) → IsName name → bound ≤ MAX_BOUND →
     head_in (name ∷ decimal bound ∷ []) ≡ Some (Fits (head_of name bound))
 head_read name bound h small =
     ap (λ o. o >>= λ n. word_in (decimal bound) >>= λ w. Some (with_word w (head_of n))) (name_is_checked name h)
     ∙ ap (λ o. o >>= λ w. Some (with_word w (head_of name))) (word_in-decimal bound small)
 
-pub spells_head : (name : List ℕ) (bound : ℕ) → IsName name → bound ≤ 1000000 →
+pub spells_head : (name : List ℕ) (bound : ℕ) → IsName name → bound ≤ MAX_BOUND →
     SpellsCase (two_words_line (codes "case") name (decimal bound)) (Head (Fits (head_of name bound)))
 spells_head name bound h small =
     spells_two 100 7 (codes "case") name (decimal bound) (Head (Fits (head_of name bound)))
@@ -211,7 +220,7 @@ spells_piece : (keyword : List ℕ) (p : Piece) (form : CaseForm) → IsPlainWor
     SpellsCase (piece_words keyword p) form
 spells_piece keyword p form h facts e =
     spells_two 18 2048 keyword (hex_text p.addr) (hex_bytes_text p.bytes) form h (hex_is_word p.addr facts.addr)
-    (hex_bytes_are_word 1024 p.bytes facts.some facts.few facts.bytes) (omega arith) e
+    (hex_bytes_are_word MAX_PIECE_BYTES p.bytes facts.some facts.few facts.bytes) (omega arith) e
 
 pub spells_mem : (p : Piece) → PieceFacts p → SpellsCase (piece_words (codes "mem") p) (Mem (Fits p))
 spells_mem p h =

@@ -1,11 +1,13 @@
 -- The parts that a case and its replies have alike lead on: pieces of memory, rows of junk words, and a word that may
 -- be absent. They lead from the state with what was given before to the state with all that was given.
-use Rattle.std.proofs.Common.{◌≡◌, ◌==◌, ℕ, ◌+◌, ◌≤◌, Bool, true, false, not, cond, List, [], ◌∷◌, ◌++◌, length, codes, All, refl, sym, ap, subst, arith, append_assoc, append-nil, length-append}
+use Rattle.std.proofs.Common.{◌≡◌, ◌==◌, ℕ, ◌+◌, ◌≤◌, Bool, true, false, not, cond, List, [], ◌∷◌, ◌++◌, length, codes}
+use Rattle.std.proofs.Common.{All, refl, sym, ap, subst, arith, append_assoc, append-nil, length-append}
 use Rattle.std.specs.List.{flat_map, concat}
 use Rattle.std.proofs.lemmas.Bool.{eqb-true}
 use Rattle.std.proofs.lemmas.List.Elements.{All-head, All-tail}
 use Rattle.std.proofs.lemmas.List.Sums.{sum_by-append}
 use Rattle.gossa_base.specs.Texts.{hex_text, hex_bytes_text}
+use Rattle.ssa_ir.specs.declared.limits.TheConstants.{MAX_CASE_BYTES, MAX_JUNK_WORDS, MAX_WORDS}
 use Rattle.ssa_ir.specs.Limits.{bytes_in}
 use Rattle.ssa_ir.specs.Texts.{newline}
 use Rattle.ssa_ir.specs.declared.case.Junk.{Junk}
@@ -14,7 +16,8 @@ use Rattle.case_text.specs.CaseReading.{CasesRead, behind, no_junk, more_junk, f
 use Rattle.case_text.specs.CaseText.{words_text, words_line, piece_line, rows_of, word_text, junk_text}
 use Rattle.case_text.specs.declared.forms.CaseForm.{CaseForm}
 use Rattle.case_text.proofs.CaseFacts.{IsWord, PieceFacts, JunkFacts}
-use Rattle.case_text.proofs.CaseLineTexts.{SpellsCase, piece_words, one_word_line, words_line_ended, one_word_ended, two_words_ended}
+use Rattle.case_text.proofs.CaseLineTexts.{SpellsCase, piece_words, one_word_line, words_line_ended, one_word_ended}
+use Rattle.case_text.proofs.CaseLineTexts.{two_words_ended}
 use Rattle.case_text.proofs.CaseRows.{RowFacts, row_facts, concat-rows_of}
 use Rattle.case_text.proofs.CaseSteps.{CasePasses, Leads, leads_nowhere, leads_append, leads_line}
 
@@ -36,12 +39,12 @@ module _ (names : List (List ℕ)) where
   -- pieces of memory: `put` gives the state with these pieces, beside so many bytes
   module _ (keyword : List ℕ) (form : Piece → CaseForm) (put : List Piece → CasesRead) (beside : ℕ)
       (spells : (p : Piece) → PieceFacts p → SpellsCase (piece_words keyword p) (form p))
-      (pass : (pieces : List Piece) (p : Piece) → PieceFacts p → beside + bytes_in (pieces ++ p ∷ []) ≤ 65536 →
+      (pass : (pieces : List Piece) (p : Piece) → PieceFacts p → beside + bytes_in (pieces ++ p ∷ []) ≤ MAX_CASE_BYTES →
       CasePasses (put pieces) (form p))
       (gives : (pieces : List Piece) (p : Piece) (n : ℕ) →
       behind names (put pieces) n (form p) ≡ put (pieces ++ p ∷ [])) where
     pub pieces_lead : (given pieces : List Piece) → All PieceFacts pieces →
-        beside + bytes_in (given ++ pieces) ≤ 65536 →
+        beside + bytes_in (given ++ pieces) ≤ MAX_CASE_BYTES →
         Leads names (flat_map (piece_line keyword) pieces) (put given) (put (given ++ pieces))
     pieces_lead given [] all few =
         leads_same [] (put given) (put given) (put (given ++ [])) (ap put (sym (append-nil given)))
@@ -51,10 +54,10 @@ module _ (names : List (List ℕ)) where
         let line : List ℕ = piece_words keyword p in
         let more : List Piece = given ++ p ∷ [] in
         let joined : more ++ pieces ≡ given ++ p ∷ pieces = append_assoc given (p ∷ []) pieces in
-        let all_few : beside + bytes_in (more ++ pieces) ≤ 65536 =
-        subst (λ l. beside + bytes_in l ≤ 65536) (sym joined) few
+        let all_few : beside + bytes_in (more ++ pieces) ≤ MAX_CASE_BYTES =
+        subst (λ l. beside + bytes_in l ≤ MAX_CASE_BYTES) (sym joined) few
         in
-        let here_few : beside + bytes_in more ≤ 65536 =
+        let here_few : beside + bytes_in more ≤ MAX_CASE_BYTES =
         omega (arith, all_few, sum_by-append (λ (x : Piece). length x.bytes) more pieces)
         in
         let here =
@@ -88,11 +91,12 @@ module _ (names : List (List ℕ)) where
 
   -- rows of words: `put` gives the state with this junk
   module _ (keyword : List ℕ) (form : List ℕ → CaseForm) (put : Junk → CasesRead)
-      (spells : (row : List ℕ) → All IsWord row → length row ≤ 64 → SpellsCase (keyword ++ words_text row) (form row))
-      (pass : (j : Junk) (row : List ℕ) → length j.words + length row ≤ 8192 → CasePasses (put j) (form row))
+      (spells : (row : List ℕ) → All IsWord row → length row ≤ MAX_WORDS
+      → SpellsCase (keyword ++ words_text row) (form row))
+      (pass : (j : Junk) (row : List ℕ) → length j.words + length row ≤ MAX_JUNK_WORDS → CasePasses (put j) (form row))
       (gives : (j : Junk) (row : List ℕ) (n : ℕ) → behind names (put j) n (form row) ≡ put (more_junk row j)) where
     pub rows_lead : (j : Junk) (rows : List (List ℕ)) → All RowFacts rows →
-        length j.words + length (concat rows) ≤ 8192 →
+        length j.words + length (concat rows) ≤ MAX_JUNK_WORDS →
         Leads names (flat_map (words_line keyword) rows) (put j) (put (more_junk (concat rows) j))
     rows_lead j [] all few =
         leads_same [] (put j) (put j) (put (more_junk [] j)) (λ i. put (with_words (sym (append-nil j.words) i) j))
@@ -117,8 +121,10 @@ module _ (names : List (List ℕ)) where
   -- junk: rows of words, and what they go on with; `put` gives the state with this junk, its fill given or not
   module _ (keyword fill : List ℕ) (form : List ℕ → CaseForm) (fill_form : ℕ → CaseForm)
       (put : Junk → Bool → CasesRead)
-      (spells : (row : List ℕ) → All IsWord row → length row ≤ 64 → SpellsCase (keyword ++ words_text row) (form row))
-      (pass : (j : Junk) (row : List ℕ) → length j.words + length row ≤ 8192 → CasePasses (put j false) (form row))
+      (spells : (row : List ℕ) → All IsWord row → length row ≤ MAX_WORDS
+      → SpellsCase (keyword ++ words_text row) (form row))
+      (pass : (j : Junk) (row : List ℕ) → length j.words + length row ≤ MAX_JUNK_WORDS
+      → CasePasses (put j false) (form row))
       (gives : (j : Junk) (row : List ℕ) (n : ℕ) →
       behind names (put j false) n (form row) ≡ put (more_junk row j) false)
       (spells_fill : (w : ℕ) → IsWord w → SpellsCase (one_word_line fill (hex_text w)) (fill_form w))
@@ -131,7 +137,8 @@ module _ (names : List (List ℕ)) where
         let whole : concat rows ≡ j.words = concat-rows_of j.words in
         let some : Junk = with_words j.words no_junk in
         let end : CasesRead = put j (not (j.fill == 0)) in
-        let few : length (concat rows) ≤ 8192 = subst (λ words. length words ≤ 8192) (sym whole) h.few in
+        let few : length (concat rows) ≤ MAX_JUNK_WORDS =
+        subst (λ words. length words ≤ MAX_JUNK_WORDS) (sym whole) h.few in
         let first =
         rows_lead keyword form (λ i. put i false) spells pass gives no_junk rows (row_facts j.words h.words)
         (omega arith)

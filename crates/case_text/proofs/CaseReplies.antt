@@ -1,8 +1,10 @@
 -- The lines of replies lead from a case to the case that has those replies, the last of them still open.
-use Rattle.std.proofs.Common.{◌≡◌, ◌==◌, ℕ, ◌+◌, ◌≤◌, ◌<◌, Bool, false, not, List, [], ◌∷◌, ◌++◌, length, length-append, codes, Some, All, refl, sym, ap, ◌∙◌, arith, append_assoc, append-nil}
+use Rattle.std.proofs.Common.{◌≡◌, ◌==◌, ℕ, ◌+◌, ◌≤◌, ◌<◌, Bool, false, not, List, [], ◌∷◌, ◌++◌, length, length-append}
+use Rattle.std.proofs.Common.{codes, Some, All, refl, sym, ap, ◌∙◌, arith, append_assoc, append-nil}
 use Rattle.std.specs.List.{flat_map, sum_by}
 use Rattle.std.proofs.lemmas.List.Elements.{All-head, All-tail}
 use Rattle.std.proofs.lemmas.List.Sums.{sum_by-cons, sum_by_push}
+use Rattle.ssa_ir.specs.declared.limits.TheConstants.{MAX_CASE_BYTES, MAX_JUNK_WORDS, MAX_REPLIES}
 use Rattle.ssa_ir.specs.Limits.{bytes_in}
 use Rattle.ssa_ir.specs.declared.case.Case.{Case}
 use Rattle.ssa_ir.specs.declared.case.Junk.{Junk}
@@ -12,12 +14,14 @@ use Rattle.ssa_lines.specs.declared.forms.Spelled.TheVariants.{Fits}
 use Rattle.ssa_lines.specs.declared.refusal.LimitKind.TheVariants.{JunkWords, Replies}
 use Rattle.case_text.specs.CaseReading.{CasesRead, with_reply, whole_case, no_junk, begun_reply, begin_reply}
 use Rattle.case_text.specs.CaseText.{words_text, words_line, piece_line, word_text, junk_text, reply_text}
-use Rattle.case_text.specs.declared.forms.CaseForm.TheVariants.{Reply as ReplyForm, Write, ReplyJunk, ReplyFill, Clobber}
+use Rattle.case_text.specs.declared.forms.CaseForm.TheVariants.{Reply as ReplyForm, Write, ReplyJunk, ReplyFill}
+use Rattle.case_text.specs.declared.forms.CaseForm.TheVariants.{Clobber}
 use Rattle.case_text.specs.declared.partial.OpenReply.{OpenReply}
 use Rattle.case_text.specs.declared.partial.OpenCase.{OpenCase}
 use Rattle.case_text.proofs.CaseFacts.{PieceFacts, JunkFacts, ReplyFacts}
 use Rattle.case_text.proofs.CaseInputs.{going, not_over, not_full, memory_fits}
-use Rattle.case_text.proofs.CaseLineTexts.{words_line_ended, spells_reply, spells_write, spells_reply_junk, spells_reply_fill, spells_clobber}
+use Rattle.case_text.proofs.CaseLineTexts.{words_line_ended, spells_reply, spells_write, spells_reply_junk}
+use Rattle.case_text.proofs.CaseLineTexts.{spells_reply_fill, spells_clobber}
 use Rattle.case_text.proofs.CaseParts.{leads_text, pieces_lead, word_leads, junk_leads}
 use Rattle.case_text.proofs.CaseSteps.{CasePasses, Leads, leads_nowhere, leads_append}
 
@@ -73,7 +77,7 @@ whole_case-all_more o (r ∷ replies) =
 module _ (names : List (List ℕ)) (cases : List Case) where
   -- what the callee wrote
   writes_lead : (o : OpenCase) (p : OpenReply) (pieces : List Piece) → All PieceFacts pieces →
-      bytes_in o.mem + bytes_written o.replies + bytes_in pieces ≤ 65536 →
+      bytes_in o.mem + bytes_written o.replies + bytes_in pieces ≤ MAX_CASE_BYTES →
       Leads names (flat_map (piece_line (codes "write")) pieces) (going cases (with_open o (with_writes p [])))
       (going cases (with_open o (with_writes p pieces)))
   writes_lead o p pieces all few =
@@ -81,7 +85,7 @@ module _ (names : List (List ℕ)) (cases : List Case) where
       (bytes_in o.mem + bytes_written o.replies) spells_write pass (λ given x n. refl) [] pieces all few
     where
       pass : (given : List Piece) (x : Piece) → PieceFacts x →
-          bytes_in o.mem + bytes_written o.replies + bytes_in (given ++ x ∷ []) ≤ 65536 →
+          bytes_in o.mem + bytes_written o.replies + bytes_in (given ++ x ∷ []) ≤ MAX_CASE_BYTES →
           CasePasses (going cases (with_open o (with_writes p given))) (Write (Fits x))
       pass given x h room =
           let so_far : Reply = record { words = p.words; writes = given; junk = p.junk; clobber = p.clobber } in
@@ -107,18 +111,18 @@ module _ (names : List (List ℕ)) (cases : List Case) where
       (λ i given. going cases (with_open o (with_junk p i given))) spells_reply_junk pass (λ i row n. refl)
       spells_reply_fill (λ i w. record { placed = refl; fits = refl; once = refl; within = refl }) (λ i w n. refl) j h
     where
-      pass : (i : Junk) (row : List ℕ) → length i.words + length row ≤ 8192 →
+      pass : (i : Junk) (row : List ℕ) → length i.words + length row ≤ MAX_JUNK_WORDS →
           CasePasses (going cases (with_open o (with_junk p i false))) (ReplyJunk (Fits row))
       pass i row few = record {
         placed = refl;
         fits = refl;
         once = refl;
-        within = not_over 8192 (length i.words + length row) JunkWords few;
+        within = not_over MAX_JUNK_WORDS (length i.words + length row) JunkWords few;
       }
 
   -- a reply, behind those that the case has
-  reply_leads : (o : OpenCase) (r : Reply) → ReplyFacts r → length (with_reply o.replies o.reply) < 4096 →
-      bytes_in o.mem + bytes_written (with_reply o.replies o.reply) + bytes_in r.writes ≤ 65536 →
+  reply_leads : (o : OpenCase) (r : Reply) → ReplyFacts r → length (with_reply o.replies o.reply) < MAX_REPLIES →
+      bytes_in o.mem + bytes_written (with_reply o.replies o.reply) + bytes_in r.writes ≤ MAX_CASE_BYTES →
       Leads names (reply_text r) (going cases o) (going cases (one_more o r))
   reply_leads o r h few room =
       let more : OpenCase = begin_reply r.words o in
@@ -130,7 +134,7 @@ module _ (names : List (List ℕ)) (cases : List Case) where
         placed = refl;
         fits = refl;
         once = refl;
-        within = not_full 4096 (length (with_reply o.replies o.reply)) Replies few;
+        within = not_full MAX_REPLIES (length (with_reply o.replies o.reply)) Replies few;
       } in
       let head =
       leads_text names (words_line (codes "reply") r.words) (codes "reply" ++ words_text r.words)
@@ -156,8 +160,8 @@ module _ (names : List (List ℕ)) (cases : List Case) where
 
   -- all replies
   pub replies_lead : (o : OpenCase) (replies : List Reply) → All ReplyFacts replies →
-      length (with_reply o.replies o.reply) + length replies ≤ 4096 →
-      bytes_in o.mem + (bytes_written (with_reply o.replies o.reply) + bytes_written replies) ≤ 65536 →
+      length (with_reply o.replies o.reply) + length replies ≤ MAX_REPLIES →
+      bytes_in o.mem + (bytes_written (with_reply o.replies o.reply) + bytes_written replies) ≤ MAX_CASE_BYTES →
       Leads names (flat_map reply_text replies) (going cases o) (going cases (all_more o replies))
   replies_lead o [] all few room = leads_nowhere names (going cases o)
   replies_lead o (r ∷ replies) all few room =

@@ -1,14 +1,17 @@
 -- Cases print to a text that reads back as they were.
-use Rattle.std.proofs.Common.{◌≡◌, ℕ, ◌+◌, ◌≤◌, ◌<◌, List, [], ◌∷◌, ◌++◌, length, length-append, codes, decimal, Option, None, Some, Ok, All, refl, sym, ap, ◌∙◌, arith, append_assoc, append-nil}
+use Rattle.std.proofs.Common.{◌≡◌, ℕ, ◌+◌, ◌≤◌, ◌<◌, List, [], ◌∷◌, ◌++◌, length, length-append, codes, decimal, Option}
+use Rattle.std.proofs.Common.{None, Some, Ok, All, refl, sym, ap, ◌∙◌, arith, append_assoc, append-nil}
 use Rattle.std.specs.List.{flat_map}
 use Rattle.std.specs.Option.{option_or}
 use Rattle.std.proofs.lemmas.List.Elements.{All-head, All-tail}
+use Rattle.ssa_ir.specs.declared.limits.TheConstants.{MAX_BOUND, MAX_CASES}
 use Rattle.ssa_ir.specs.declared.case.Case.{Case}
 use Rattle.ssa_lines.specs.Lines.{lines_of}
 use Rattle.ssa_lines.specs.declared.forms.Spelled.TheVariants.{Fits}
 use Rattle.ssa_lines.specs.declared.refusal.LimitKind.TheVariants.{Cases, Bound}
 use Rattle.case_text.specs.CaseForms.{head_of}
-use Rattle.case_text.specs.CaseReading.{CasesRead, cases_read, no_cases, whole_case, with_case, absent_at, begin_case, read_from, cases_or_unknown, finished, read_cases}
+use Rattle.case_text.specs.CaseReading.{CasesRead, cases_read, no_cases, whole_case, with_case, absent_at, begin_case}
+use Rattle.case_text.specs.CaseReading.{read_from, cases_or_unknown, finished, read_cases}
 use Rattle.case_text.specs.CaseText.{inputs_text, reply_text, name_at, case_head, case_text, cases_text}
 use Rattle.case_text.specs.declared.forms.CaseForm.TheVariants.{Head}
 use Rattle.case_text.specs.declared.partial.OpenCase.{OpenCase}
@@ -26,7 +29,7 @@ begun name c = begin_case (Some c.func) (head_of name c.bound)
 module _ (names : List (List ℕ)) where
   -- the first line of a case begins it, behind the cases so far
   head_leads : (cases : List Case) (current : Option OpenCase) (c : Case) → CaseFacts names c →
-      length (with_case cases current) < 64 →
+      length (with_case cases current) < MAX_CASES →
       Leads names (case_head (name_at names c.func) c) (cases_read cases current None)
       (going (with_case cases current) (begun (name_at names c.func) c))
   head_leads cases current c h few =
@@ -38,8 +41,8 @@ module _ (names : List (List ℕ)) where
         once = refl;
         within =
             λ i.
-            option_or (not_full 64 (length (with_case cases current)) Cases few i)
-            (not_over 1000000 c.bound Bound h.bound i);
+            option_or (not_full MAX_CASES (length (with_case cases current)) Cases few i)
+            (not_over MAX_BOUND c.bound Bound h.bound i);
       } in
       leads_text names (case_head name c) (two_words_line (codes "case") name (decimal c.bound))
       (Head (Fits (head_of name c.bound))) r (going (with_case cases current) (begun name c))
@@ -50,7 +53,7 @@ module _ (names : List (List ℕ)) where
 
   -- a case leads to itself
   case_leads : (cases : List Case) (current : Option OpenCase) (c : Case) → CaseFacts names c →
-      length (with_case cases current) < 64 →
+      length (with_case cases current) < MAX_CASES →
       Leads names (case_text (name_at names c.func) c) (cases_read cases current None)
       (going (with_case cases current) (all_more (open_case c) c.replies))
   case_leads cases current c h few =
@@ -79,7 +82,7 @@ pub record CasesLead (names : List (List ℕ)) (r : CasesRead) (cases : List Cas
   pub all_found : end.unknown ≡ None
 
 cases_lead : (names : List (List ℕ)) (before : List Case) (current : Option OpenCase) (cases : List Case) →
-    All (CaseFacts names) cases → length (with_case before current) + length cases ≤ 64 →
+    All (CaseFacts names) cases → length (with_case before current) + length cases ≤ MAX_CASES →
     CasesLead names (cases_read before current None) cases
 cases_lead names before current [] all few = record {
   end = cases_read before current None;

@@ -1,13 +1,16 @@
 -- Reading a text that is put together, step by step: each part leads from what was read to what is read behind it.
-use Rattle.std.proofs.Common.{◌≡◌, ℕ, ◌+◌, true, false, not, cond, List, [], ◌++◌, length, None, Some, refl, ap, ◌∙◌, append_assoc}
+use Rattle.std.proofs.Common.{◌≡◌, ℕ, ◌+◌, true, false, not, cond, List, [], ◌++◌, length, None, Some, refl, ap, ◌∙◌}
+use Rattle.std.proofs.Common.{append_assoc}
 use Rattle.std.proofs.lemmas.Bool.{le-ltb}
+use Rattle.ssa_ir.specs.declared.limits.TheConstants.{MAX_LINE_BYTES}
 use Rattle.ssa_ir.specs.Texts.{newline}
 use Rattle.ssa_lines.specs.Limits.{limit_of}
 use Rattle.ssa_lines.specs.Lines.{lines_of}
 use Rattle.ssa_lines.specs.declared.refusal.LimitKind.TheVariants.{LineBytes}
 use Rattle.ssa_lines.specs.declared.refusal.TextRefusal.TheVariants.{BadByte, BadLine, NumberTooLarge, Duplicate, Limit}
 use Rattle.ssa_lines.proofs.LineLemmas.{line_in_front}
-use Rattle.case_text.specs.CaseReading.{CasesRead, in_place, is_too_large, is_twice, limit_passed, fault_of_form, fault_of, behind, then_read, read_from}
+use Rattle.case_text.specs.CaseReading.{CasesRead, in_place, is_too_large, is_twice, limit_passed, fault_of_form}
+use Rattle.case_text.specs.CaseReading.{fault_of, behind, then_read, read_from}
 use Rattle.case_text.specs.declared.forms.CaseForm.{CaseForm}
 use Rattle.case_text.proofs.CaseLineTexts.{SpellsCase, ended}
 
@@ -28,7 +31,7 @@ line_has_no_fault : (r : CasesRead) (n : ℕ) (line : List ℕ) (form : CaseForm
     CasePasses r form → fault_of r n line ≡ None
 line_has_no_fault r n line form spelled h =
     (λ i.
-    cond (le-ltb 4096 (length line) spelled.short i) (Some (Limit LineBytes n))
+    cond (le-ltb MAX_LINE_BYTES (length line) spelled.short i) (Some (Limit LineBytes n))
     (cond (not (spelled.allowed i)) (Some (BadByte n)) (fault_of_form r n (spelled.form_is i))))
     ∙ form_has_no_fault r n form h
 

@@ -1,5 +1,7 @@
 -- What a line among cases without a fault passes, test by test.
-use Rattle.std.proofs.Common.{◌≡◌, ℕ, Bool, true, false, not, nat_lt, List, length, Option, None, Some, Result, Ok, if◌then◌else◌, refl}
+use Rattle.std.proofs.Common.{◌≡◌, ℕ, Bool, true, false, not, nat_lt, List, length, Option, None, Some, Result, Ok}
+use Rattle.std.proofs.Common.{if◌then◌else◌, refl}
+use Rattle.ssa_ir.specs.declared.limits.TheConstants.{MAX_LINE_BYTES}
 use Rattle.ssa_lines.specs.Limits.{limit_of}
 use Rattle.ssa_lines.specs.Lines.{is_allowed}
 use Rattle.ssa_lines.specs.Words.{words_of}
@@ -8,7 +10,8 @@ use Rattle.ssa_lines.specs.declared.refusal.LimitKind.TheVariants.{LineBytes}
 use Rattle.ssa_lines.specs.declared.refusal.TextRefusal.{TextRefusal}
 use Rattle.ssa_lines.specs.declared.refusal.TextRefusal.TheVariants.{BadByte, BadLine, NumberTooLarge, Duplicate, Limit}
 use Rattle.case_text.specs.CaseForms.{case_form_of}
-use Rattle.case_text.specs.CaseReading.{CasesRead, in_place, is_too_large, is_twice, limit_passed, fault_of_form, fault_of, then_read}
+use Rattle.case_text.specs.CaseReading.{CasesRead, in_place, is_too_large, is_twice, limit_passed, fault_of_form}
+use Rattle.case_text.specs.CaseReading.{fault_of, then_read}
 use Rattle.case_text.specs.declared.forms.CaseForm.{CaseForm}
 
 -- the tests of a form, by what they answer, and what is passed of the limits
@@ -61,7 +64,7 @@ pub form_has_no_fault : (r : CasesRead) (line : ℕ) (bytes : List ℕ) → faul
     → fault_of_form r line (case_form_of (words_of bytes)) ≡ None
 form_has_no_fault r line bytes h =
     let fault : Option TextRefusal = fault_of_form r line (case_form_of (words_of bytes)) in
-    within line (nat_lt 4096 (length bytes)) (is_allowed bytes) fault h
+    within line (nat_lt MAX_LINE_BYTES (length bytes)) (is_allowed bytes) fault h
 
 -- a line that was read has no fault, and the lines behind it were read
 pub line_was_read : (fault : Option TextRefusal) (r end : CasesRead) (go : CasesRead → Result CasesRead TextRefusal)

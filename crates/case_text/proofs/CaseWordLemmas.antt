@@ -1,8 +1,10 @@
 -- What is known of the integers and the bytes that words spell.
-use Rattle.std.proofs.Common.{◌≡◌, ℕ, ◌<◌, ℤ, pos, negsuc, Bool, true, false, nat_lt, if◌then◌else◌, List, [], ◌∷◌, All, Option, None, Some, IfSome, refl, arith, length-take}
+use Rattle.std.proofs.Common.{◌≡◌, ℕ, ◌<◌, ℤ, pos, negsuc, Bool, true, false, nat_lt, if◌then◌else◌, List, [], ◌∷◌, All}
+use Rattle.std.proofs.Common.{Option, None, Some, IfSome, refl, arith, length-take}
 use Rattle.std.specs.Option.{option_map}
 use Rattle.std.proofs.lemmas.Bool.{ltb-true}
 use Rattle.std.proofs.lemmas.List.Elements.{All-nil, All-cons, All-take}
+use Rattle.ssa_ir.specs.declared.limits.TheConstants.{MAX_WORDS}
 use Rattle.gossa_base.specs.Words.{word_of}
 use Rattle.ssa_lines.specs.Numbers.{below, digit_in, digit_value, integer_of, is_word, sized}
 use Rattle.ssa_lines.specs.declared.numbers.Integer.{Integer}
@@ -10,7 +12,8 @@ use Rattle.ssa_lines.specs.declared.numbers.Integer.TheVariants.{Word, TooLarge 
 use Rattle.ssa_lines.specs.declared.forms.Spelled.{Spelled}
 use Rattle.ssa_lines.specs.declared.forms.Spelled.TheVariants.{Fits, TooLarge}
 use Rattle.ssa_lines.proofs.NumberFactsLemmas.{IfFits}
-use Rattle.case_text.specs.CaseForms.{word_in, with_word, before_word, words_in, first_64, first_words_in, only_word, byte_of, before_byte, bytes_in, some_bytes_in}
+use Rattle.case_text.specs.CaseForms.{word_in, with_word, before_word, words_in, first_kept, first_words_in, only_word}
+use Rattle.case_text.specs.CaseForms.{byte_of, before_byte, bytes_in, some_bytes_in}
 use Rattle.case_text.proofs.CaseFacts.{IsWord}
 use Rattle.case_text.proofs.CaseFormFacts.{FewWords, SomeBytes}
 
@@ -60,11 +63,11 @@ words_shown [] = All-nil IsWord
 words_shown (word ∷ words) = before_shown (word_in word) (words_in words) (word_shown word) (words_shown words)
 
 cut_shown : (o : Option (Spelled (List ℕ))) → IfSome o Words
-    → IfSome (option_map first_64 o) (λ s. IfFits s FewWords)
+    → IfSome (option_map first_kept o) (λ s. IfFits s FewWords)
 cut_shown None h = tt
 cut_shown (Some TooLarge) h = tt
 cut_shown (Some (Fits words)) h =
-    record { each = All-take IsWord 64 words h; few = omega (arith, length-take 64 words) }
+    record { each = All-take IsWord MAX_WORDS words h; few = omega (arith, length-take MAX_WORDS words) }
 
 pub first_words_shown : (words : List (List ℕ)) → IfSome (first_words_in words) (λ s. IfFits s FewWords)
 first_words_shown words = cut_shown (words_in words) (words_shown words)

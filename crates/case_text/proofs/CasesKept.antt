@@ -1,8 +1,10 @@
 -- What holds of the cases that were read so far, where no line had a fault and each function was found.
-use Rattle.std.proofs.Common.{◌≡◌, ℕ, ◌+◌, ◌<◌, ◌≤◌, false, List, [], ◌∷◌, ◌++◌, length, All, Option, None, Some, IfSome, arith, refl}
+use Rattle.std.proofs.Common.{◌≡◌, ℕ, ◌+◌, ◌<◌, ◌≤◌, false, List, [], ◌∷◌, ◌++◌, length, All, Option, None, Some}
+use Rattle.std.proofs.Common.{IfSome, arith, refl}
 use Rattle.std.specs.List.{AllPairs, sum_by}
 use Rattle.std.proofs.lemmas.List.{length-append}
 use Rattle.std.proofs.lemmas.List.Elements.{All-nil, All-push}
+use Rattle.ssa_ir.specs.declared.limits.TheConstants.{MAX_BOUND, MAX_CASES, MAX_CASE_BYTES, MAX_REPLIES}
 use Rattle.ssa_ir.specs.Limits.{bytes_in}
 use Rattle.ssa_ir.specs.Names.{IsName}
 use Rattle.ssa_ir.specs.declared.case.Piece.{Piece}
@@ -20,7 +22,7 @@ pub record HeadKept (names : List (List ℕ)) (func bound : ℕ) : Type 0 where
   pub there : func < length names
   pub found : function_of names (name_at names func) ≡ Some func
   pub named : IsName (name_at names func)
-  pub few_turns : bound ≤ 1000000
+  pub few_turns : bound ≤ MAX_BOUND
 
 pub record SymsKept (syms : List (List ℕ × ℕ)) : Type 0 where
   pub each : All SymFacts syms
@@ -33,8 +35,8 @@ bytes_of mem replies = bytes_in mem + sum_by (λ (r : Reply). bytes_in r.writes)
 pub record MemoryKept (mem : List Piece) (replies : List Reply) : Type 0 where
   pub pieces : All PieceFacts mem
   pub each : All ReplyFacts replies
-  pub few : length replies ≤ 4096
-  pub few_bytes : bytes_of mem replies ≤ 65536
+  pub few : length replies ≤ MAX_REPLIES
+  pub few_bytes : bytes_of mem replies ≤ MAX_CASE_BYTES
 
 -- the case that goes on
 pub record OpenKept (names : List (List ℕ)) (c : OpenCase) : Type 0 where
@@ -46,7 +48,7 @@ pub record OpenKept (names : List (List ℕ)) (c : OpenCase) : Type 0 where
 
 -- the whole cases, and the one that goes on
 pub record CasesKept (names : List (List ℕ)) (cases : List Case) (current : Option OpenCase) : Type 0 where
-  pub few : length (with_case cases current) ≤ 64
+  pub few : length (with_case cases current) ≤ MAX_CASES
   pub whole : All (CaseFacts names) cases
   pub goes_on : IfSome current (OpenKept names)
 
@@ -89,7 +91,7 @@ pub change_kept : (names : List (List ℕ)) (cases : List Case) (current : Optio
     → CasesKept names cases current → CasesKept names cases (change_case by current)
 change_kept names cases None by keeps kept = kept
 change_kept names cases (Some c) by keeps kept =
-    let few : length (cases ++ whole_case c ∷ []) ≤ 64 = kept.few in
+    let few : length (cases ++ whole_case c ∷ []) ≤ MAX_CASES = kept.few in
     let before = length-append cases (whole_case c ∷ []) in
     let after = length-append cases (whole_case (by c) ∷ []) in
     record { few = omega arith; whole = kept.whole; goes_on = keeps c refl kept.goes_on }

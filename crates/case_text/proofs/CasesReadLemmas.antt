@@ -5,7 +5,8 @@ use Rattle.ssa_lines.specs.Lines.{lines_of}
 use Rattle.ssa_lines.specs.Words.{words_of}
 use Rattle.ssa_lines.specs.declared.refusal.TextRefusal.{TextRefusal}
 use Rattle.case_text.specs.CaseForms.{case_form_of}
-use Rattle.case_text.specs.CaseReading.{CasesRead, no_cases, with_case, fault_of, behind, read_from, cases_or_unknown, finished, read_cases}
+use Rattle.case_text.specs.CaseReading.{CasesRead, no_cases, with_case, fault_of, behind, read_from, cases_or_unknown}
+use Rattle.case_text.specs.CaseReading.{finished, read_cases}
 use Rattle.case_text.proofs.CaseFacts.{CasesFacts}
 use Rattle.case_text.proofs.CaseFormLemmas.{case_form_facts}
 use Rattle.case_text.proofs.CaseLineLemmas.{ReadKept, read_kept_behind}

@@ -6,7 +6,8 @@ use Rattle.ssa_lines.specs.declared.refusal.TextRefusal.{TextRefusal}
 use Rattle.ssa_lines.proofs.RefusalLemmas.{refuses_so}
 use Rattle.case_text.specs.CaseForms.{case_form_of}
 use Rattle.case_text.specs.declared.forms.CaseForm.{CaseForm}
-use Rattle.case_text.specs.CaseReading.{CasesRead, fault_of, in_place, is_twice, limit_passed, behind, then_read, form_or_fault, checked_form, read_line}
+use Rattle.case_text.specs.CaseReading.{CasesRead, fault_of, in_place, is_twice, limit_passed, behind, then_read}
+use Rattle.case_text.specs.CaseReading.{form_or_fault, checked_form, read_line}
 use Rattle.case_text.proofs.CaseTests.{Passes, passes, form_has_no_fault}
 
 -- a fault of a line is what is read behind it

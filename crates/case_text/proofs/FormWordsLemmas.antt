@@ -1,21 +1,23 @@
 -- Words of a line, one after the other.
-use Rattle.std.proofs.Common.{◌≡◌, ℕ, ◌<◌, min, Bool, true, false, if◌then◌else◌, List, [], ◌∷◌, ◌++◌, length, take, Option, None, Some, refl, sym, ap, ◌∙◌, arith, ltb, append-nil}
+use Rattle.std.proofs.Common.{◌≡◌, ℕ, ◌<◌, min, Bool, true, false, if◌then◌else◌, List, [], ◌∷◌, ◌++◌, length, take}
+use Rattle.std.proofs.Common.{Option, None, Some, refl, sym, ap, ◌∙◌, arith, ltb, append-nil}
 use Rattle.std.specs.Option.{option_map}
 use Rattle.std.proofs.lemmas.Bool.{cond_both, ltb-true, ltb-false}
 use Rattle.std.proofs.lemmas.List.{append_assoc, length-append, length-take, take_all, take-append-le}
+use Rattle.ssa_ir.specs.declared.limits.TheConstants.{MAX_WORDS}
 use Rattle.ssa_lines.specs.declared.numbers.Integer.{Integer}
 use Rattle.ssa_lines.specs.declared.numbers.Integer.TheVariants.{Word, TooLarge as IntegerTooLarge}
 use Rattle.ssa_lines.specs.declared.forms.Spelled.{Spelled}
 use Rattle.ssa_lines.specs.declared.forms.Spelled.TheVariants.{Fits, TooLarge}
-use Rattle.case_text.specs.CaseForms.{word_in, before_word, words_in, first_64, first_words_in}
+use Rattle.case_text.specs.CaseForms.{word_in, before_word, words_in, first_kept, first_words_in}
 
 -- one more word, the last
 abbrev pub one_more : List ℕ → ℕ → List ℕ
 one_more list w = list ++ w ∷ []
 
--- the same, where fewer than 64 are kept
+-- the same, where fewer than `MAX_WORDS` are kept
 abbrev pub one_more_kept : List ℕ → ℕ → List ℕ
-one_more_kept list w = if ltb (length list) 64 then list ++ w ∷ [] else list
+one_more_kept list w = if ltb (length list) MAX_WORDS then list ++ w ∷ [] else list
 
 -- these words, or that one of them was too large
 abbrev pub fitting_words : Bool → List ℕ → Spelled (List ℕ)
@@ -68,40 +70,42 @@ behind_none (Some (Fits words)) = refl
 pub from_first : (words : List (List ℕ)) → words_from one_more false [] words ≡ words_in words
 from_first words = from_is_behind false [] words ∙ behind_none (words_in words)
 
--- of one more word, the first 64
-kept_taken : (list : List ℕ) (w : ℕ) → one_more_kept (take 64 list) w ≡ take 64 (list ++ w ∷ [])
+-- of one more word, the first `MAX_WORDS`
+kept_taken : (list : List ℕ) (w : ℕ) → one_more_kept (take MAX_WORDS list) w ≡ take MAX_WORDS (list ++ w ∷ [])
 kept_taken list w =
-    let n : ℕ = length (take 64 list) in
-    let size : n ≡ min 64 (length list) = length-take 64 list in
-    cond_both (ltb n 64) (take 64 list ++ w ∷ []) (take 64 list) (λ kept. kept ≡ take 64 (list ++ w ∷ []))
+    let n : ℕ = length (take MAX_WORDS list) in
+    let size : n ≡ min MAX_WORDS (length list) = length-take MAX_WORDS list in
+    cond_both (ltb n MAX_WORDS) (take MAX_WORDS list ++ w ∷ []) (take MAX_WORDS list)
+    (λ kept. kept ≡ take MAX_WORDS (list ++ w ∷ []))
     (λ short.
-    let few : length list < 64 = omega (arith, ltb-true n 64 short, size) in
-    ap (λ front. front ++ w ∷ []) (take_all 64 list (omega arith))
-    ∙ sym (take_all 64 (list ++ w ∷ []) (omega (arith, length-append list (w ∷ [])))))
-    (λ long. sym (take-append-le 64 list (w ∷ []) (omega (arith, ltb-false n 64 long, size))))
+    let few : length list < MAX_WORDS = omega (arith, ltb-true n MAX_WORDS short, size) in
+    ap (λ front. front ++ w ∷ []) (take_all MAX_WORDS list (omega arith))
+    ∙ sym (take_all MAX_WORDS (list ++ w ∷ []) (omega (arith, length-append list (w ∷ [])))))
+    (λ long. sym (take-append-le MAX_WORDS list (w ∷ []) (omega (arith, ltb-false n MAX_WORDS long, size))))
 
-taken_end : (large : Bool) (list : List ℕ) → fitting_words large (take 64 list) ≡ first_64 (fitting_words large list)
+taken_end : (large : Bool) (list : List ℕ) → fitting_words large (take MAX_WORDS list)
+    ≡ first_kept (fitting_words large list)
 taken_end true list = refl
 taken_end false list = refl
 
 by_kept_word : (large : Bool) (list : List ℕ) (n : Option Integer) (words : List (List ℕ))
-    → ((more_large : Bool) (more : List ℕ) → words_from one_more_kept more_large (take 64 more) words
-    ≡ option_map first_64 (words_from one_more more_large more words))
-    → word_or_none one_more_kept large (take 64 list) n (λ l more. words_from one_more_kept l more words)
-    ≡ option_map first_64 (word_or_none one_more large list n (λ l more. words_from one_more l more words))
+    → ((more_large : Bool) (more : List ℕ) → words_from one_more_kept more_large (take MAX_WORDS more) words
+    ≡ option_map first_kept (words_from one_more more_large more words))
+    → word_or_none one_more_kept large (take MAX_WORDS list) n (λ l more. words_from one_more_kept l more words)
+    ≡ option_map first_kept (word_or_none one_more large list n (λ l more. words_from one_more l more words))
 by_kept_word large list None words later = refl
 by_kept_word large list (Some IntegerTooLarge) words later = later true list
 by_kept_word large list (Some (Word w)) words later =
     ap (λ kept. words_from one_more_kept large kept words) (kept_taken list w) ∙ later large (list ++ w ∷ [])
 
--- the first 64 of the words so far and of those left are kept
+-- the first `MAX_WORDS` of the words so far and of those left are kept
 kept_from : (large : Bool) (list : List ℕ) (words : List (List ℕ))
-    → words_from one_more_kept large (take 64 list) words
-    ≡ option_map first_64 (words_from one_more large list words)
+    → words_from one_more_kept large (take MAX_WORDS list) words
+    ≡ option_map first_kept (words_from one_more large list words)
 kept_from large list [] = ap Some (taken_end large list)
 kept_from large list (word ∷ words) =
     by_kept_word large list (word_in word) words (λ more_large more. kept_from more_large more words)
 
--- from no words on, those kept are the first 64 of all
+-- from no words on, those kept are the first `MAX_WORDS` of all
 pub kept_from_first : (words : List (List ℕ)) → words_from one_more_kept false [] words ≡ first_words_in words
-kept_from_first words = kept_from false [] words ∙ ap (option_map first_64) (from_first words)
+kept_from_first words = kept_from false [] words ∙ ap (option_map first_kept) (from_first words)

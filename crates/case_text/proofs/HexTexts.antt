@@ -1,5 +1,6 @@
 -- The texts of words in hexadecimal digits are words of a line, and are read as what they were made of.
-use Rattle.std.proofs.Common.{◌≡◌, ◌==◌, ℕ, zero, suc, ◌+◌, ◌*◌, ◌/◌, ◌%◌, ◌^◌, ◌<◌, ◌≤◌, Bool, true, false, cond, List, [], ◌∷◌, length, decimal, Some, refl, ap, ◌∙◌, arith}
+use Rattle.std.proofs.Common.{◌≡◌, ◌==◌, ℕ, zero, suc, ◌+◌, ◌*◌, ◌/◌, ◌%◌, ◌^◌, ◌<◌, ◌≤◌, Bool, true, false, cond, List}
+use Rattle.std.proofs.Common.{[], ◌∷◌, length, decimal, Some, refl, ap, ◌∙◌, arith}
 use Rattle.std.specs.Prelude.{pos}
 use Rattle.std.specs.Char.{digit_value as value_in_std}
 use Rattle.std.specs.Fmt.{digit_glyph, digits_onto, digits}
@@ -13,6 +14,7 @@ use Rattle.std.proofs.lemmas.Fmt.{digits_is_IsNumeral}
 use Rattle.std.proofs.lemmas.Int.{ints}
 use Rattle.gossa_base.specs.Texts.{hex_text}
 use Rattle.gossa_base.specs.Words.{low, word_of}
+use Rattle.ssa_ir.specs.declared.limits.TheConstants.{MAX_BOUND}
 use Rattle.ssa_ir.specs.Names.{is_name_byte}
 use Rattle.ssa_lines.specs.Numbers.{digit_in, with_digit, digits_behind, integer_of, is_word, sized}
 use Rattle.ssa_lines.specs.declared.numbers.Integer.TheVariants.{Word, TooLarge}
@@ -96,11 +98,11 @@ pub word_in-hex : (w : ℕ) → w < 2 ^ 64 → word_in (hex_text w) ≡ Some (Wo
 word_in-hex w small = ap (option_map sized) (integer_of-hex w small) ∙ ap Some (sized-pos w small)
 
 -- so is a decimal
-pub word_in-decimal : (n : ℕ) → n ≤ 1000000 → word_in (decimal n) ≡ Some (Word n)
+pub word_in-decimal : (n : ℕ) → n ≤ MAX_BOUND → word_in (decimal n) ≡ Some (Word n)
 word_in-decimal n small =
     ap (option_map sized) (signed_read (pos n) (record { sfits = omega arith })) ∙ ap Some (sized-pos n (omega arith))
 
-pub decimal_is_word : (n : ℕ) → n ≤ 1000000 → IsPlainWord 7 (decimal n)
+pub decimal_is_word : (n : ℕ) → n ≤ MAX_BOUND → IsPlainWord 7 (decimal n)
 decimal_is_word n small =
     let below : n < 2 ^ 64 = omega arith in
     plain_word_from_name 7 (decimal n) (some_decimal n below) (short_decimal n small) (name_bytes-decimal n below)

@@ -1,8 +1,10 @@
 -- What a line changes of the symbols and of the bytes that a case gives.
-use Rattle.std.proofs.Common.{◌≡◌, ℕ, ◌+◌, ◌≤◌, true, List, [], ◌∷◌, ◌++◌, length, map, is_some, Option, None, Some, refl, sym, ap, ◌∙◌, arith}
+use Rattle.std.proofs.Common.{◌≡◌, ℕ, ◌+◌, ◌≤◌, true, List, [], ◌∷◌, ◌++◌, length, map, is_some, Option, None, Some}
+use Rattle.std.proofs.Common.{refl, sym, ap, ◌∙◌, arith}
 use Rattle.std.specs.List.{sum_by}
 use Rattle.std.proofs.lemmas.List.{map-append}
 use Rattle.std.proofs.lemmas.List.Sums.{sum_by_push}
+use Rattle.ssa_ir.specs.declared.limits.TheConstants.{MAX_CASE_BYTES, MAX_PIECE_BYTES}
 use Rattle.ssa_ir.specs.Limits.{bytes_in}
 use Rattle.ssa_ir.specs.declared.case.Piece.{Piece}
 use Rattle.ssa_ir.specs.declared.case.Reply.{Reply}
@@ -11,13 +13,15 @@ use Rattle.ssa_lines.specs.declared.refusal.LimitKind.TheVariants.{MemBytes}
 use Rattle.case_text.specs.declared.forms.SymLine.{SymLine}
 use Rattle.case_text.specs.declared.partial.OpenReply.{OpenReply}
 use Rattle.case_text.specs.declared.partial.OpenCase.{OpenCase}
-use Rattle.case_text.specs.CaseReading.{CasesRead, has_reply, symbols, bytes_given, memory_limit, whole_reply, with_reply, change_case, change_reply, in_reply, give_sym, give_mem, give_write, begin_reply, begun_reply}
+use Rattle.case_text.specs.CaseReading.{CasesRead, has_reply, symbols, bytes_given, memory_limit, whole_reply}
+use Rattle.case_text.specs.CaseReading.{with_reply, change_case, change_reply, in_reply, give_sym, give_mem, give_write}
+use Rattle.case_text.specs.CaseReading.{begin_reply, begun_reply}
 use Rattle.ssa_lines.proofs.LimitLemmas.{not_over, neither}
 
 -- the tables of a reader are those of the case that goes on
 abbrev pub Tables : Option OpenCase → (names : List (List ℕ)) → (bytes : ℕ) → Type 0
 Tables current names bytes =
-    (names ≡ map (λ s. s.0) (symbols current)) × (bytes ≡ bytes_given current) × (bytes ≤ 65536)
+    (names ≡ map (λ s. s.0) (symbols current)) × (bytes ≡ bytes_given current) × (bytes ≤ MAX_CASE_BYTES)
 
 -- a line that gives neither symbols nor bytes keeps them
 module _ (by : OpenCase → OpenCase) (same_syms : (c : OpenCase) → (by c).syms ≡ c.syms)
@@ -87,10 +91,11 @@ symbol_taken s (Some c) after names more bytes place changed put before = (
 
 -- bytes that pass no limit
 bytes_within : (r : CasesRead) (p : Piece) → memory_limit r p ≡ None
-    → bytes_given r.current + length p.bytes ≤ 65536
+    → bytes_given r.current + length p.bytes ≤ MAX_CASE_BYTES
 bytes_within r p h =
-    not_over 65536 (bytes_given r.current + length p.bytes) MemBytes
-    (neither (over 1024 (length p.bytes) MemBytes) (over 65536 (bytes_given r.current + length p.bytes) MemBytes) h).1
+    not_over MAX_CASE_BYTES (bytes_given r.current + length p.bytes) MemBytes
+    (neither (over MAX_PIECE_BYTES (length p.bytes) MemBytes)
+    (over MAX_CASE_BYTES (bytes_given r.current + length p.bytes) MemBytes) h).1
 
 more_mem : (p : Piece) (current : Option OpenCase) → is_some current ≡ true
     → bytes_given (change_case (give_mem p) current) ≡ bytes_given current + length p.bytes

@@ -1,8 +1,10 @@
 -- Words in rows of 16.
-use Rattle.std.proofs.Common.{◌≡◌, ℕ, zero, suc, ◌+◌, ◌-◌, ◌<◌, ◌≤◌, min, List, [], ◌∷◌, ◌++◌, length, take, drop, refl, sym, ap, ◌∙◌, arith}
+use Rattle.std.proofs.Common.{◌≡◌, ℕ, zero, suc, ◌+◌, ◌-◌, ◌<◌, ◌≤◌, min, List, [], ◌∷◌, ◌++◌, length, take, drop, refl}
+use Rattle.std.proofs.Common.{sym, ap, ◌∙◌, arith}
 use Rattle.std.proofs.Math.ListN.{drop_of_length-le}
 use Rattle.std.proofs.Math.Seq.{take-append_seam, drop-append_seam}
 use Rattle.std.proofs.lemmas.List.{append-nil, length-append, length-drop, take-append-drop}
+use Rattle.gossa_base.proofs.ListPieces.{front_taken}
 use Rattle.case_text.specs.CaseText.{rows_within, rows_of}
 
 -- more rows than are needed change nothing
@@ -18,23 +20,6 @@ enough (suc n) (suc m) (w ∷ words) a b =
     let shorter : length rest ≡ length (w ∷ words) - 16 = length-drop 16 (w ∷ words) in
     ap (λ rows. take 16 (w ∷ words) ∷ rows) (enough n m rest (omega arith) (omega arith))
 
--- a short list is taken whole
-taken_whole : (n : ℕ) (words : List ℕ) → length words ≤ n → take n words ≡ words
-taken_whole n words few =
-    sym (append-nil (take n words)) ∙ ap (λ d. take n words ++ d) (sym (drop_of_length-le words few)) ∙ take-append-drop n words
-
--- the first row is the front, and what is behind it is left
-front_taken : (front rest : List ℕ) → length front ≡ min 16 (length front + length rest)
-    → (take 16 (front ++ rest) ≡ front) × (drop 16 (front ++ rest) ≡ rest)
-front_taken front [] e =
-    let few : length (front ++ []) ≤ 16 = let sum = length-append front [] in omega arith in
-    (taken_whole 16 (front ++ []) few ∙ append-nil front, drop_of_length-le (front ++ []) few)
-front_taken front (r ∷ rest) e =
-    let full : length front ≡ 16 = omega arith in (
-      ap (λ n. take n (front ++ r ∷ rest)) (sym full) ∙ take-append_seam front (r ∷ rest),
-      ap (λ n. drop n (front ++ r ∷ rest)) (sym full) ∙ drop-append_seam front (r ∷ rest),
-    )
-
 -- a row, and the rows behind it
 rows_begin : (words : List ℕ) → 0 < length words → rows_of words ≡ take 16 words ∷ rows_of (drop 16 words)
 rows_begin [] some = absurd (omega arith)
@@ -43,11 +28,12 @@ rows_begin (w ∷ words) some =
     let shorter : length rest ≡ length (w ∷ words) - 16 = length-drop 16 (w ∷ words) in
     ap (λ rows. take 16 (w ∷ words) ∷ rows) (enough (length words) (length rest) rest (omega arith) (omega arith))
 
-pub rows_step : (words front rest : List ℕ) → words ≡ front ++ rest → length front ≡ min 16 (length words) → 0 < length words
+pub rows_step : (words front rest : List ℕ) → words ≡ front ++ rest → length front ≡ min 16 (length words)
+    → 0 < length words
     → rows_of words ≡ front ∷ rows_of rest
 rows_step words front rest e row some =
     let total : length words ≡ length front + length rest = ap length e ∙ length-append front rest in
-    let parts = front_taken front rest (row ∙ ap (λ n. min 16 n) total) in
+    let parts = front_taken 16 front rest (row ∙ ap (λ n. min 16 n) total) in
     rows_begin words some
     ∙ ap (λ w. take 16 w ∷ rows_of (drop 16 w)) e
     ∙ ap (λ t. t ∷ rows_of (drop 16 (front ++ rest))) parts.0

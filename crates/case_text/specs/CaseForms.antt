@@ -2,6 +2,7 @@
 use Rattle.std.specs.Prelude.{ℕ, ◌+◌, ◌*◌, nat_eq, if◌then◌else◌, List, [], ◌∷◌, codes, take, Option, None, Some}
 use Rattle.std.specs.List.{starts_with}
 use Rattle.std.specs.Option.{option_map}
+use Rattle.ssa_ir.specs.declared.limits.TheConstants.{MAX_WORDS}
 use Rattle.ssa_ir.specs.declared.case.Piece.{Piece}
 use Rattle.ssa_lines.specs.Numbers.{digit_in, integer_of, sized}
 use Rattle.ssa_lines.specs.Steps.{◌>>=◌}
@@ -14,7 +15,8 @@ use Rattle.ssa_lines.specs.declared.forms.Spelled.TheVariants.{Fits, TooLarge}
 use Rattle.case_text.specs.declared.forms.CaseHead.{CaseHead}
 use Rattle.case_text.specs.declared.forms.SymLine.{SymLine}
 use Rattle.case_text.specs.declared.forms.CaseForm.{CaseForm}
-use Rattle.case_text.specs.declared.forms.CaseForm.TheVariants.{Blank, Head, Args, Sym, Mem, Junk, Fill, Reply, Write, ReplyJunk, ReplyFill, Clobber, Bad}
+use Rattle.case_text.specs.declared.forms.CaseForm.TheVariants.{Blank, Head, Args, Sym, Mem, Junk, Fill, Reply, Write}
+use Rattle.case_text.specs.declared.forms.CaseForm.TheVariants.{ReplyJunk, ReplyFill, Clobber, Bad}
 
 -- the integer that a word spells, which may be too large for a word of 64 bits
 abbrev pub word_in : List ℕ → Option Integer
@@ -37,13 +39,13 @@ abbrev pub words_in : List (List ℕ) → Option (Spelled (List ℕ))
 words_in [] = Some (Fits [])
 words_in (word ∷ words) = before_word (word_in word) (words_in words)
 
--- of words that are kept only so far, the first 64
-abbrev pub first_64 : Spelled (List ℕ) → Spelled (List ℕ)
-first_64 (Fits words) = Fits (take 64 words)
-first_64 TooLarge = TooLarge
+-- of words that are kept only so far, the first ones
+abbrev pub first_kept : Spelled (List ℕ) → Spelled (List ℕ)
+first_kept (Fits words) = Fits (take MAX_WORDS words)
+first_kept TooLarge = TooLarge
 
 abbrev pub first_words_in : List (List ℕ) → Option (Spelled (List ℕ))
-first_words_in words = option_map first_64 (words_in words)
+first_words_in words = option_map first_kept (words_in words)
 
 -- the only word of a line behind its keyword
 abbrev pub only_word : List (List ℕ) → Option (Spelled ℕ)

@@ -1,7 +1,10 @@
 -- What cases a text is read as: its lines one by one, with what was read before them.
-use Rattle.std.specs.Prelude.{ℕ, ◌+◌, nat_lt, Bool, true, false, not, if◌then◌else◌, List, [], ◌∷◌, ◌++◌, length, is_some, position, unwrap_or, Option, None, Some, Result, Ok, Err}
+use Rattle.std.specs.Prelude.{ℕ, ◌+◌, nat_lt, Bool, true, false, not, if◌then◌else◌, List, [], ◌∷◌, ◌++◌, length}
+use Rattle.std.specs.Prelude.{is_some, position, unwrap_or, Option, None, Some, Result, Ok, Err}
 use Rattle.std.specs.List.{list_any, sum_by}
 use Rattle.std.specs.Option.{option_or}
+use Rattle.ssa_ir.specs.declared.limits.TheConstants.{MAX_BOUND, MAX_CASES, MAX_CASE_BYTES, MAX_JUNK_WORDS}
+use Rattle.ssa_ir.specs.declared.limits.TheConstants.{MAX_LINE_BYTES, MAX_PIECE_BYTES, MAX_REPLIES}
 use Rattle.ssa_ir.specs.Limits.{bytes_in}
 use Rattle.ssa_ir.specs.declared.case.Piece.{Piece}
 use Rattle.ssa_ir.specs.declared.case.Junk.{Junk}
@@ -13,14 +16,18 @@ use Rattle.ssa_lines.specs.Words.{is_same, words_of}
 use Rattle.ssa_lines.specs.declared.forms.Spelled.{Spelled}
 use Rattle.ssa_lines.specs.declared.forms.Spelled.TheVariants.{Fits, TooLarge}
 use Rattle.ssa_lines.specs.declared.refusal.LimitKind.{LimitKind}
-use Rattle.ssa_lines.specs.declared.refusal.LimitKind.TheVariants.{LineBytes, Cases, Bound, Replies, MemBytes, JunkWords}
+use Rattle.ssa_lines.specs.declared.refusal.LimitKind.TheVariants.{LineBytes, Cases, Bound, Replies, MemBytes}
+use Rattle.ssa_lines.specs.declared.refusal.LimitKind.TheVariants.{JunkWords}
 use Rattle.ssa_lines.specs.declared.refusal.TextRefusal.{TextRefusal}
-use Rattle.ssa_lines.specs.declared.refusal.TextRefusal.TheVariants.{BadByte, BadLine, NumberTooLarge, Duplicate, UnknownRef, Limit}
+use Rattle.ssa_lines.specs.declared.refusal.TextRefusal.TheVariants.{BadByte, BadLine, NumberTooLarge, Duplicate}
+use Rattle.ssa_lines.specs.declared.refusal.TextRefusal.TheVariants.{UnknownRef, Limit}
 use Rattle.case_text.specs.CaseForms.{case_form_of}
 use Rattle.case_text.specs.declared.forms.CaseHead.{CaseHead}
 use Rattle.case_text.specs.declared.forms.SymLine.{SymLine}
 use Rattle.case_text.specs.declared.forms.CaseForm.{CaseForm}
-use Rattle.case_text.specs.declared.forms.CaseForm.TheVariants.{Blank, Head, Args, Sym, Mem, Junk as JunkForm, Fill, Reply as ReplyForm, Write, ReplyJunk, ReplyFill, Clobber, Bad}
+use Rattle.case_text.specs.declared.forms.CaseForm.TheVariants.{Blank, Head, Args, Sym, Mem, Junk as JunkForm, Fill}
+use Rattle.case_text.specs.declared.forms.CaseForm.TheVariants.{Reply as ReplyForm, Write, ReplyJunk, ReplyFill}
+use Rattle.case_text.specs.declared.forms.CaseForm.TheVariants.{Clobber, Bad}
 use Rattle.case_text.specs.declared.partial.OpenReply.{OpenReply}
 use Rattle.case_text.specs.declared.partial.OpenCase.{OpenCase}
 use Rattle.case_text.specs.declared.read.CasePart.{CasePart}
@@ -41,8 +48,8 @@ abbrev pub has_reply : Option OpenCase → Bool
 has_reply None = false
 has_reply (Some c) = is_some c.reply
 
--- a line of this form may stand here: a case begins anywhere, its lines stand behind that, and those of a reply behind its
--- beginning
+-- a line of this form may stand here: a case begins anywhere, its lines stand behind that, and those of a reply behind
+-- its beginning
 abbrev pub in_place : CasesRead → CaseForm → Bool
 in_place r Blank = true
 in_place r (Head h) = true
@@ -155,18 +162,19 @@ with_case cases (Some c) = cases ++ whole_case c ∷ []
 -- the first limit that bytes of memory pass: that of one line, and that of a case
 abbrev pub memory_limit : CasesRead → Piece → Option LimitKind
 memory_limit r p =
-    option_or (over 1024 (length p.bytes) MemBytes) (over 65536 (bytes_given r.current + length p.bytes) MemBytes)
+    option_or (over MAX_PIECE_BYTES (length p.bytes) MemBytes)
+    (over MAX_CASE_BYTES (bytes_given r.current + length p.bytes) MemBytes)
 
 -- the first limit that a line of this form passes, in the order of the table
 abbrev pub limit_passed : CasesRead → CaseForm → Option LimitKind
 limit_passed r (Head (Fits h)) =
-    option_or (full 64 (length (with_case r.cases r.current)) Cases) (over 1000000 h.bound Bound)
-limit_passed r (ReplyForm (Fits words)) = full 4096 (length (replies_of r.current)) Replies
+    option_or (full MAX_CASES (length (with_case r.cases r.current)) Cases) (over MAX_BOUND h.bound Bound)
+limit_passed r (ReplyForm (Fits words)) = full MAX_REPLIES (length (replies_of r.current)) Replies
 limit_passed r (Mem (Fits p)) = memory_limit r p
 limit_passed r (Write (Fits p)) = memory_limit r p
-limit_passed r (JunkForm (Fits words)) = over 8192 (length (junk_given r.current) + length words) JunkWords
+limit_passed r (JunkForm (Fits words)) = over MAX_JUNK_WORDS (length (junk_given r.current) + length words) JunkWords
 limit_passed r (ReplyJunk (Fits words)) =
-    over 8192 (length (reply_junk_given (reply_of r.current)) + length words) JunkWords
+    over MAX_JUNK_WORDS (length (reply_junk_given (reply_of r.current)) + length words) JunkWords
 limit_passed r _ = None
 
 -- what is wrong with a line of this form, the first of all that is
@@ -180,7 +188,7 @@ fault_of_form r line form =
 -- what is wrong with a line
 abbrev pub fault_of : CasesRead → (line : ℕ) → List ℕ → Option TextRefusal
 fault_of r line bytes =
-    if nat_lt 4096 (length bytes) then Some (Limit LineBytes line)
+    if nat_lt MAX_LINE_BYTES (length bytes) then Some (Limit LineBytes line)
     else if not (is_allowed bytes) then Some (BadByte line)
     else fault_of_form r line (case_form_of (words_of bytes))
 
@@ -284,7 +292,8 @@ behind names r line (ReplyFill (Fits w)) = changed r (in_reply (give_reply_fill 
 behind names r line (Clobber (Fits w)) = changed r (in_reply (give_clobber w))
 behind names r line _ = r
 
-abbrev pub then_read : Option TextRefusal → CasesRead → (CasesRead → Result CasesRead TextRefusal) → Result CasesRead TextRefusal
+abbrev pub then_read : Option TextRefusal → CasesRead → (CasesRead → Result CasesRead TextRefusal)
+    → Result CasesRead TextRefusal
 then_read (Some fault) r go = Err fault
 then_read None r go = go r
 

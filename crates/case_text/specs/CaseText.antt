@@ -1,5 +1,6 @@
 -- The canonical text of cases. What has no form in it has the empty text, and the fixed words around it stay.
-use Rattle.std.specs.Prelude.{ℕ, zero, suc, ◌==◌, if◌then◌else◌, List, [], ◌∷◌, ◌++◌, codes, decimal, length, take, drop, slice_index_or}
+use Rattle.std.specs.Prelude.{ℕ, zero, suc, ◌==◌, if◌then◌else◌, List, [], ◌∷◌, ◌++◌, codes, decimal, length, take}
+use Rattle.std.specs.Prelude.{drop, slice_index_or}
 use Rattle.std.specs.List.{flat_map}
 use Rattle.gossa_base.specs.Texts.{led, hex_text, hex_bytes_text}
 use Rattle.ssa_ir.specs.declared.case.Piece.{Piece}

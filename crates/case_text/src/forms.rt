@@ -25,7 +25,7 @@ pub enum CaseForm {
     Blank,
     /// `case NAME BOUND`, the beginning of a case.
     Head(Spelled<CaseHead>),
-    /// `args W W`: the parameters' words, of which the first 64 are kept.
+    /// `args W W`: the parameters' words, of which the first [`MAX_WORDS`] are kept.
     Args(Spelled<Words>),
     /// `sym NAME W`: the address of a symbol.
     Sym(Spelled<SymLine>),
@@ -35,7 +35,7 @@ pub enum CaseForm {
     Junk(Spelled<Words>),
     /// `fill W`: what the junk goes on with.
     Fill(Spelled<u64>),
-    /// `reply W W`: the beginning of a reply, and its result words, of which the first 64 are kept.
+    /// `reply W W`: the beginning of a reply, and its result words, of which the first [`MAX_WORDS`] are kept.
     Reply(Spelled<Words>),
     /// `write ADDR HEX`: bytes that the callee wrote.
     Write(Spelled<Piece>),

@@ -1,7 +1,8 @@
 //! The text of cases: the lines behind a unit's functions that say on what inputs they run.
 //!
-//! [`read_cases`] reads them line by line, each by its first word, and refuses the first line with a fault, for the first
-//! fault of that line; [`print_cases`] gives the one canonical text, which reads back as the cases that were printed.
+//! [`read_cases`] reads them line by line, each by its first word, and refuses the first line with a fault, for the
+//! first fault of that line; [`print_cases`] gives the one canonical text, which reads back as the cases that were
+//! printed.
 //!
 //! ```text
 //! case main.sum 100

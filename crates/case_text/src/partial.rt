@@ -2,7 +2,9 @@
 
 ghost use Rattle.std.specs.Prelude.{◌≡◌, ◌<◌, ◌^◌, ◌++◌, OnOk, IfOk};
 ghost use Rattle.case_text.specs.CaseReading as spec;
-ghost use Rattle.case_text.specs.CaseReading.{change_case, change_reply, in_reply, give_args, give_sym, give_mem, give_junk, give_fill, give_write, give_reply_junk, give_reply_fill, give_clobber, more_junk};
+ghost use Rattle.case_text.specs.CaseReading.{change_case, change_reply, in_reply, give_args, give_sym, give_mem};
+ghost use Rattle.case_text.specs.CaseReading.{give_junk, give_fill, give_write, give_reply_junk, give_reply_fill};
+ghost use Rattle.case_text.specs.CaseReading.{give_clobber, more_junk};
 
 use crate::forms::{CaseHead, SymLine};
 use gossa_base::{NoMemory, Sequence};

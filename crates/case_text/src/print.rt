@@ -2,7 +2,9 @@
 
 ghost use Rattle.std.specs.Prelude.{◌≡◌, List, ◌++◌, map, OnOk, IfOk};
 ghost use Rattle.std.specs.List.{flat_map};
-ghost use Rattle.case_text.specs.CaseText.{words_line, args_text, symbol_line, piece_line, rows_of, word_text, junk_text, reply_text, inputs_text, case_head, case_text, cases_text, name_at};
+ghost use Rattle.case_text.specs.CaseText.{words_line, args_text, symbol_line, piece_line, rows_of, word_text};
+ghost use Rattle.case_text.specs.CaseText.{junk_text, reply_text, inputs_text, case_head, case_text, cases_text};
+ghost use Rattle.case_text.specs.CaseText.{name_at};
 
 use gossa_base::{Bytes, Name, NoMemory, Print, Sequence, put, put_hex, put_hex_bytes, put_number};
 use ssa_ir::{Case, Cases, Junk, Piece, Reply, Sig, Sigs};

@@ -10,12 +10,12 @@ use crate::forms::CaseForm;
 use crate::read_forms::read_case_form;
 use crate::reader::CaseReader;
 use gossa_base::{Name, NoMemory, Sequence};
+use ssa_ir::limits::MAX_LINE_BYTES;
 use ssa_ir::{Cases, Sig, Sigs};
 use ssa_lines::{LimitKind, TextLines, TextRefusal, is_allowed};
 use std::alloc::Global;
 
 /// How many bytes a line may have.
-const LINE_BYTES: usize = 4096;
 
 /// The cases of a text, and the first line that names a function that isn't there, if one does.
 #[derive(Drop)]
@@ -137,7 +137,7 @@ fn checked_form(
 ) -> Result<CaseForm, TextRefusal>
     ensures { ReadsAs result (spec.checked_form reader.now number line.now) }
 {
-    if LINE_BYTES < line.len() {
+    if MAX_LINE_BYTES < line.len() {
         return Err(TextRefusal::Limit(LimitKind::LineBytes, number));
     }
     if !is_allowed(line) {

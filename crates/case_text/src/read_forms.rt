@@ -9,11 +9,11 @@ ghost use Rattle.case_text.specs.CaseForms as spec;
 use crate::forms::{CaseForm, CaseHead, SymLine};
 use gossa_base::{Bytes, Name, NoMemory, Sequence};
 use ssa_ir::Piece;
+use ssa_ir::limits::MAX_WORDS;
 use ssa_lines::{Integer, Spelled, Words, is_name, is_same, read_integer};
 use std::alloc::Global;
 
 // How many words of `args` and of `reply` are kept.
-const KEPT_WORDS: usize = 64;
 
 /// The form of a line among cases, by its words alone.
 ///
@@ -284,7 +284,7 @@ fn read_words(alloc: Global, words: &mut Words) -> Result<Option<Spelled<ssa_ir:
     }))
 }
 
-// The same, of which the first 64 are kept.
+// The same, of which the first ones are kept.
 fn read_first_words(
     alloc: Global,
     words: &mut Words,
@@ -297,7 +297,7 @@ fn read_first_words(
         match read_integer(word) {
             None => return Ok(None),
             Some(Integer::TooLarge) => too_large = true,
-            Some(Integer::Word(word)) if list.len() < KEPT_WORDS => list.push(word)?,
+            Some(Integer::Word(word)) if list.len() < MAX_WORDS => list.push(word)?,
             Some(Integer::Word(_)) => {}
         }
     }

@@ -6,9 +6,13 @@ ghost use Rattle.ssa_lines.specs.Limits as limits;
 ghost use Rattle.ssa_lines.specs.Words.{is_same};
 ghost use Rattle.ssa_lines.specs.declared.forms.Spelled.TheVariants.{Fits};
 ghost use Rattle.ssa_lines.specs.declared.refusal.LimitKind.TheVariants.{JunkWords};
-ghost use Rattle.case_text.specs.declared.forms.CaseForm.TheVariants.{Head as HeadForm, Sym as SymForm, Mem as MemForm, Write as WriteForm};
+ghost use Rattle.case_text.specs.declared.forms.CaseForm.TheVariants.{Head as HeadForm, Sym as SymForm, Mem as MemForm};
+ghost use Rattle.case_text.specs.declared.forms.CaseForm.TheVariants.{Write as WriteForm};
 ghost use Rattle.case_text.specs.CaseReading as spec;
-ghost use Rattle.case_text.specs.CaseReading.{no_cases, fault_of_form, behind, changed, in_reply, give_args, give_sym, give_mem, give_junk, give_fill, give_write, give_reply_junk, give_reply_fill, give_clobber};
+ghost use Rattle.case_text.specs.CaseReading.{no_cases, fault_of_form, behind, changed, in_reply, give_args, give_sym};
+ghost use Rattle.case_text.specs.CaseReading.{give_mem, give_junk, give_fill, give_write, give_reply_junk};
+ghost use Rattle.case_text.specs.CaseReading.{give_reply_fill, give_clobber};
+ghost use Rattle.ssa_ir.specs.declared.limits.TheConstants.{MAX_JUNK_WORDS};
 
 use crate::forms::{CaseForm, CaseHead, SymLine};
 use crate::partial::{
@@ -17,6 +21,9 @@ use crate::partial::{
 };
 use crate::read::CasePart;
 use gossa_base::{Name, NoMemory, Sequence};
+use ssa_ir::limits::{
+    MAX_BOUND, MAX_CASE_BYTES, MAX_CASES, MAX_JUNK_WORDS, MAX_PIECE_BYTES, MAX_REPLIES,
+};
 use ssa_ir::{Cases, Piece, Words};
 use ssa_lines::{LimitKind, NameSet, Spelled, TextRefusal};
 use std::alloc::Global;
@@ -37,6 +44,7 @@ impl Model for CaseReader {
     ghost use Rattle.std.specs.Prelude.{◌≡◌, ◌≤◌, map};
     ghost use Rattle.case_text.specs.CaseReading as reading;
     ghost use Rattle.case_text.specs.CaseReading.{CasesRead, cases_read, bytes_given};
+    ghost use Rattle.ssa_ir.specs.declared.limits.TheConstants.{MAX_CASE_BYTES};
 
     ghost Value = { CasesRead };
 
@@ -45,7 +53,7 @@ impl Model for CaseReader {
     ghost invariant = { λ r.
         (r.symbols ≡ map (λ s. s.0) (reading.symbols r.current))
         × (r.bytes ≡ bytes_given r.current)
-        × (r.bytes ≤ 65536) };
+        × (r.bytes ≤ MAX_CASE_BYTES) };
 }
 
 impl CaseReader {
@@ -126,14 +134,14 @@ impl CaseReader {
     {
         match form {
             CaseForm::Head(Spelled::Fits(head)) => {
-                full(64, self.case_count(), LimitKind::Cases).or(over(
-                    1_000_000,
+                full(MAX_CASES, self.case_count(), LimitKind::Cases).or(over(
+                    MAX_BOUND,
                     head.bound,
                     LimitKind::Bound,
                 ))
             }
             CaseForm::Reply(Spelled::Fits(_)) => {
-                full(4096, self.reply_count(), LimitKind::Replies)
+                full(MAX_REPLIES, self.reply_count(), LimitKind::Replies)
             }
             CaseForm::Mem(Spelled::Fits(piece)) | CaseForm::Write(Spelled::Fits(piece)) => {
                 self.memory_limit(piece)
@@ -168,8 +176,8 @@ impl CaseReader {
         ensures { result ≡ spec.memory_limit self.now piece.now }
     {
         let count = piece.bytes.as_slice().len();
-        over(1024, count as u64, LimitKind::MemBytes).or(over(
-            65_536,
+        over(MAX_PIECE_BYTES as u64, count as u64, LimitKind::MemBytes).or(over(
+            MAX_CASE_BYTES as u64,
             (self.bytes + count) as u64,
             LimitKind::MemBytes,
         ))
@@ -484,10 +492,10 @@ fn over(limit: u64, count: u64, kind: LimitKind) -> Option<LimitKind>
 
 // The limit that junk words pass behind others, if they do.
 fn junk_limit(before: &[u64], words: &[u64]) -> Option<LimitKind>
-    ensures { result ≡ limits.over 8192 (length before.now + length words.now) JunkWords }
+    ensures { result ≡ limits.over MAX_JUNK_WORDS (length before.now + length words.now) JunkWords }
 {
     over(
-        8192,
+        MAX_JUNK_WORDS as u64,
         (before.len() + words.len()) as u64,
         LimitKind::JunkWords,
     )

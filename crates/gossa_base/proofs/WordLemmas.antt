@@ -15,7 +15,8 @@ low_mask k few =
     let j : ℕ = 64 - k in
     let sum : 64 ≡ k + j = omega arith in
     ap (λ n. (n - 1) / 2 ^ j) (ap (λ n. 2 ^ n) sum ∙ pow-add 2 k j)
-    ∙ ap (λ n. n / 2 ^ j) (below (2 ^ j) (2 ^ k * 2 ^ j) ((2 ^ k - 1) * 2 ^ j) (split_product (2 ^ k) (2 ^ j) (pow_pos k)) (pow_pos j))
+    ∙ ap (λ n. n / 2 ^ j)
+    (below (2 ^ j) (2 ^ k * 2 ^ j) ((2 ^ k - 1) * 2 ^ j) (split_product (2 ^ k) (2 ^ j) (pow_pos k)) (pow_pos j))
     ∙ div-mul-add (2 ^ k - 1) (2 ^ j) (2 ^ j - 1) (omega (arith, pow_pos j))
 
 pub masked : (k w : ℕ) → k ≤ 64 → bit_and w ((2 ^ 64 - 1) / 2 ^ (64 - k)) ≡ w % 2 ^ k

@@ -1,5 +1,7 @@
 -- Sources and sinks over memory, and exactly which of their calls fail.
-use Rattle.std.specs.Prelude.{◌≡◌, ℕ, ◌+◌, ◌-◌, ◌^◌, ◌↔◌, Bool, false, ◌==◌, ◌||◌, nat_lt, nat_le, if◌then◌else◌, IsTrue, List, ◌++◌, length, take, drop, min, Option, None, Some, Result, Ok, Err, IsErr, IfOk}
+use Rattle.std.specs.Prelude.{◌≡◌, ℕ, ◌+◌, ◌-◌, ◌^◌, ◌↔◌, Bool, false, ◌==◌, ◌||◌, nat_lt, nat_le, if◌then◌else◌}
+use Rattle.std.specs.Prelude.{IsTrue, List, ◌++◌, length, take, drop, min, Option, None, Some, Result, Ok, Err, IsErr}
+use Rattle.std.specs.Prelude.{IfOk}
 use Rattle.std.specs.List.{list_any}
 use Rattle.gossa_base.specs.declared.outside.Failed.{Failed}
 use Rattle.gossa_base.specs.Faults.{fault_after}
@@ -28,7 +30,8 @@ abbrev pub source_after : SourceState → Result ℕ Failed → SourceState
 source_after s (Ok n) = record s { left = drop n s.left; next = number_after s.next }
 source_after s (Err _) = record s { next = number_after s.next; faults = fault_after s.faults }
 
--- a read fails exactly where its call is listed, and else gives the next bytes, as many as piece, buffer and input allow
+-- a read fails exactly where its call is listed, and else gives the next bytes, as many as piece, buffer and input
+-- allow
 pub record ReadsMemory (old new : SourceState) (buffer : List ℕ) (answer : Result ℕ Failed) : Type 0 where
   pub fails : IsErr answer ↔ IsTrue (is_listed old.fail_at old.next)
   pub count : IfOk answer (λ n. n ≡ min old.piece (min (length buffer) (length old.left)))

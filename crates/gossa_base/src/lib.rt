@@ -16,6 +16,7 @@
 //! where a call was interrupted.
 #![tactic(auto)]
 
+pub mod bit_row;
 mod calls;
 pub mod ids;
 pub mod laws;
@@ -30,6 +31,7 @@ pub mod std_streams;
 pub mod whole;
 pub mod words;
 
+pub use bit_row::BitRow;
 pub use ids::{BlockId, ValueId};
 pub use mem_sink::MemSink;
 pub use mem_source::MemSource;

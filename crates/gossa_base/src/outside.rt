@@ -16,10 +16,9 @@ pub trait Source {
     // How many faults it has met so far. It stays at the last number of its type.
     ghost faults: { Self → ℕ };
 
-    /// Moves some of the bytes left to the front of `buf`, which isn't empty, and answers how many: none only at the end
-    /// of input.
-    /// `Failed` comes only where the count of faults rose, or stands at its last number, and then no byte was taken. Where
-    /// it doesn't come, no fault was met: the count stays.
+    /// Moves some of the bytes left to the front of `buf`, which isn't empty, and answers how many: none only at the
+    /// end of input. `Failed` comes only where the count of faults rose, or stands at its last number, and then no byte
+    /// was taken. Where it doesn't come, no fault was met: the count stays.
     fn read(&mut self, buf: &mut [u8]) -> Result<usize, Failed>
         requires { 0 < length buf.old }
         ensures bound { ReadsAtMost result buf.new }

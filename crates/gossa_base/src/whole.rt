@@ -24,8 +24,8 @@ pub enum ReadRefusal {
 // How many bytes one read may give.
 const CHUNK: usize = 4096;
 
-/// Reads all that the source has left, up to its end: at most `limit` bytes. A fault that the source meets ends it, so that
-/// with any other answer the count of faults stayed.
+/// Reads all that the source has left, up to its end: at most `limit` bytes. A fault that the source meets ends it, so
+/// that with any other answer the count of faults stayed.
 pub fn read_all<S: Source>(
     alloc: Global,
     source: &mut S,
@@ -60,7 +60,8 @@ pub fn read_all<S: Source>(
     }
 }
 
-/// Writes all of `text`. Where it fails, a prefix of the text was written; where it doesn't, the count of faults stayed.
+/// Writes all of `text`. Where it fails, a prefix of the text was written; where it doesn't, the count of faults
+/// stayed.
 pub fn write_all<K: Sink>(sink: &mut K, text: &[u8]) -> Result<(), Failed>
     ensures ok { OnOk result (Appends (K.held sink.old) (K.held sink.new) text.now) }
     ensures fault { OnErr result (Faulted (K.faults sink.old) (K.faults sink.new)) }

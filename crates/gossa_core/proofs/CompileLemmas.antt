@@ -8,9 +8,9 @@ use Rattle.ssa_ir.specs.declared.func.SsaUnit.{SsaUnit}
 use Rattle.listing.specs.declared.code.Listing.{Listing}
 use Rattle.listing.specs.SameShow.{SameShow, ShowsAs, callees_of}
 use Rattle.gossa_core.specs.Compiled.{listings_of}
-use Rattle.gossa_core.specs.Narrow.{Narrow}
-use Rattle.gossa_core.specs.Plain.{plain_listing}
-use Rattle.gossa_core.proofs.PlainRun.{plain_shows}
+use Rattle.sum_compile.specs.Narrow.{Narrow}
+use Rattle.sum_compile.specs.Plain.{plain_listing}
+use Rattle.sum_compile.proofs.PlainRun.{plain_shows}
 
 -- the listings have the signatures of the functions
 signatures_are : (regs : ℕ) (funcs : List Func)

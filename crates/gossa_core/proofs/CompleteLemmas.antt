@@ -1,5 +1,6 @@
 -- Where nothing failed and the input is the text of a unit that the command takes, the causes leave two answers.
-use Rattle.std.proofs.Common.{◌≡◌, ℕ, ◌≤◌, List, ◌++◌, length, Option, None, Some, slice_get, Result, Ok, Err, sym, ap, subst, ◌∙◌, ◌⊎◌, inl, inr, append-nil, length-append, arith}
+use Rattle.std.proofs.Common.{◌≡◌, ℕ, ◌≤◌, List, ◌++◌, length, Option, None, Some, slice_get, Result, Ok, Err, sym, ap}
+use Rattle.std.proofs.Common.{subst, ◌∙◌, ◌⊎◌, inl, inr, append-nil, length-append, arith}
 use Rattle.std.specs.Io.KnownBytes.{Consumes, IsAtEnd}
 use Rattle.std.specs.List.{All}
 use Rattle.std.proofs.lemmas.Option.{slice_get_within, get_or_from_slice_get}
@@ -14,17 +15,19 @@ use Rattle.gossa_core.specs.declared.status.CheckFault.{CheckFault}
 use Rattle.gossa_core.specs.declared.status.Status.{Status}
 use Rattle.gossa_core.specs.declared.status.Status.TheVariants.{Done as IsDone, NoMemory as IsNoMemory}
 use Rattle.gossa_core.specs.declared.status.Outcome.{Outcome}
-use Rattle.gossa_core.specs.declared.status.Outcome.TheVariants.{Done, NotBuilt, TooLong, Text, Check, Usage, ReadFault, WriteFault, NoMemory}
+use Rattle.gossa_core.specs.declared.status.Outcome.TheVariants.{Done, NotBuilt, TooLong, Text, Check, Usage, ReadFault}
+use Rattle.gossa_core.specs.declared.status.Outcome.TheVariants.{WriteFault, NoMemory}
 use Rattle.gossa_core.specs.declared.words.Command.{Command}
 use Rattle.gossa_core.specs.declared.words.Command.TheVariants.{Compile, Run}
 use Rattle.gossa_core.specs.Answer.{status_of, IsComplete}
 use Rattle.gossa_core.specs.Causes.{CommandCause, Cause}
-use Rattle.gossa_core.specs.Narrow.{Narrow}
-use Rattle.gossa_core.specs.Outputs.{input_limit, Takes}
+use Rattle.sum_compile.specs.Narrow.{Narrow}
+use Rattle.gossa_core.specs.Outputs.{Takes}
+use Rattle.ssa_ir.specs.declared.limits.TheConstants.{MAX_INPUT_BYTES}
 use Rattle.gossa_core.specs.Unmade.{FailsCheck, IsFirstFault, LeavesUnbuilt, Misspells}
 use Rattle.gossa_core.specs.Words.{command_of}
 use Rattle.gossa_core.specs.Worlds.{World}
-use Rattle.gossa_core.proofs.NarrowAccepted.{narrow_accepted}
+use Rattle.sum_compile.proofs.NarrowAccepted.{narrow_accepted}
 use Rattle.gossa_core.proofs.CompileLemmas.{narrow_at}
 
 -- a text that was read whole is all that was left
@@ -70,7 +73,8 @@ unmisspelled c text Wanting h bad = bad
 unmisspelled c text refusal h bad = unrefused (read_unit text) h.unit refusal h.read bad
 
 -- function i of a unit that a command takes meets all checks
-taken_accepted : (c : Command) (u : SsaUnit) (i : ℕ) (f : Func) → Takes c u → slice_get u.funcs i ≡ Some f → MeetsAll u f
+taken_accepted : (c : Command) (u : SsaUnit) (i : ℕ) (f : Func) → Takes c u → slice_get u.funcs i ≡ Some f
+    → MeetsAll u f
 taken_accepted (Compile regs) u i f h at = narrow_accepted u f (narrow_at u.funcs i f h at)
 taken_accepted Run u i f h at =
     subst (MeetsAll u) (get_or_from_slice_get u.funcs i f f at) (h i f (slice_get_within u.funcs i f at))
@@ -83,13 +87,14 @@ unfailing c u told h bad =
 
 passing : (c : Command) (text : List ℕ) (told : CheckFault) → SpellsTaken c text → FailsCheck text told → ⊥
 passing c text told h bad =
-    unfailing c bad.unit told (subst (Takes c) (one_unit (read_unit text) h.unit bad.unit h.read bad.read) h.taken) bad.first
+    unfailing c bad.unit told (subst (Takes c) (one_unit (read_unit text) h.unit bad.unit h.read bad.read) h.taken)
+    bad.first
 
 complete_by_outcome : (command : Command) (before after : World) (status : Status) (outcome : Outcome)
     → status ≡ status_of outcome
     → CommandCause command before after outcome → ¬ Faulted before.read_faults after.read_faults
     → ¬ Faulted before.write_faults after.write_faults
-    → (text : List ℕ) → before.left ≡ Some text → length text ≤ input_limit → SpellsTaken command text
+    → (text : List ℕ) → before.left ≡ Some text → length text ≤ MAX_INPUT_BYTES → SpellsTaken command text
     → (status ≡ IsDone) ⊎ (status ≡ IsNoMemory)
 complete_by_outcome command before after status Done e c no_read no_write text left few h = inl e
 complete_by_outcome command before after status NotBuilt e c no_read no_write text left few h =
@@ -110,16 +115,18 @@ complete_by_outcome command before after status WriteFault e c no_read no_write 
     absurd (no_write c.faulted)
 complete_by_outcome command before after status NoMemory e c no_read no_write text left few h = inr e
 
-complete_by_command : (found : Option Command) (command : Command) (before after : World) (status : Status) (outcome : Outcome)
+complete_by_command : (found : Option Command) (command : Command) (before after : World) (status : Status)
+    (outcome : Outcome)
     → status ≡ status_of outcome
     → Cause found before after outcome → found ≡ Some command → ¬ Faulted before.read_faults after.read_faults
     → ¬ Faulted before.write_faults after.write_faults → (text : List ℕ) → before.left ≡ Some text
-    → length text ≤ input_limit
+    → length text ≤ MAX_INPUT_BYTES
     → SpellsTaken command text → (status ≡ IsDone) ⊎ (status ≡ IsNoMemory)
 complete_by_command None command before after status outcome e c is no_read no_write text left few h = cc
 complete_by_command (Some other) command before after status outcome e c is no_read no_write text left few h =
     let same : other ≡ command = cc in
-    complete_by_outcome command before after status outcome e (subst (λ d. CommandCause d before after outcome) same c) no_read no_write text left few h
+    complete_by_outcome command before after status outcome e (subst (λ d. CommandCause d before after outcome) same c)
+    no_read no_write text left few h
 
 pub complete : (words : List (List ℕ)) (before after : World) (status : Status) (outcome : Outcome)
     → status ≡ status_of outcome

@@ -5,6 +5,7 @@ use Rattle.std.specs.List.{flat_map}
 use Rattle.std.proofs.Math.ListN.{drop_of_length-le}
 use Rattle.std.proofs.Math.Seq.{take-append_seam, drop-append_seam}
 use Rattle.std.proofs.lemmas.List.{append-nil, length-append, length-drop, take-append-drop}
+use Rattle.gossa_base.proofs.ListPieces.{front_taken}
 use Rattle.gossa_core.specs.ShownText.{pieces_within, mem_line, run_text}
 
 -- more pieces than are needed change nothing
@@ -20,25 +21,6 @@ enough (suc n) (suc m) (p ∷ run) a b =
     let shorter : length rest ≡ length (p ∷ run) - 16 = length-drop 16 (p ∷ run) in
     ap (λ pieces. take 16 (p ∷ run) ∷ pieces) (enough n m rest (omega arith) (omega arith))
 
--- a short run is taken whole
-taken_whole : (n : ℕ) (run : List (ℕ × ℕ)) → length run ≤ n → take n run ≡ run
-taken_whole n run few =
-    sym (append-nil (take n run))
-    ∙ ap (λ d. take n run ++ d) (sym (drop_of_length-le run few))
-    ∙ take-append-drop n run
-
--- the first piece is the front, and what is behind it is left
-front_taken : (front rest : List (ℕ × ℕ)) → length front ≡ min 16 (length front + length rest)
-    → (take 16 (front ++ rest) ≡ front) × (drop 16 (front ++ rest) ≡ rest)
-front_taken front [] e =
-    let few : length (front ++ []) ≤ 16 = let sum = length-append front [] in omega arith in
-    (taken_whole 16 (front ++ []) few ∙ append-nil front, drop_of_length-le (front ++ []) few)
-front_taken front (r ∷ rest) e =
-    let full : length front ≡ 16 = omega arith in (
-      ap (λ n. take n (front ++ r ∷ rest)) (sym full) ∙ take-append_seam front (r ∷ rest),
-      ap (λ n. drop n (front ++ r ∷ rest)) (sym full) ∙ drop-append_seam front (r ∷ rest),
-    )
-
 -- the line of the first piece, and those behind it
 pieces_begin : (run : List (ℕ × ℕ)) → 0 < length run → run_text run ≡ mem_line (take 16 run) ++ run_text (drop 16 run)
 pieces_begin [] some = absurd (omega arith)
@@ -53,7 +35,7 @@ pub run_step : (run front rest : List (ℕ × ℕ)) → run ≡ front ++ rest �
     → 0 < length run → run_text run ≡ mem_line front ++ run_text rest
 run_step run front rest e piece some =
     let total : length run ≡ length front + length rest = ap length e ∙ length-append front rest in
-    let parts = front_taken front rest (piece ∙ ap (λ n. min 16 n) total) in
+    let parts = front_taken 16 front rest (piece ∙ ap (λ n. min 16 n) total) in
     pieces_begin run some
     ∙ ap (λ l. mem_line (take 16 l) ++ run_text (drop 16 l)) e
     ∙ ap (λ t. mem_line t ++ run_text (drop 16 (front ++ rest))) parts.0

@@ -7,13 +7,17 @@ use Rattle.ssa_ir.specs.declared.func.SsaUnit.{SsaUnit}
 use Rattle.ssa_text.specs.UnitReading.{read_unit}
 use Rattle.ssa_lines.specs.declared.refusal.TextRefusal.TheVariants.{NoMemory as Wanting}
 use Rattle.gossa_core.specs.declared.status.Status.{Status}
-use Rattle.gossa_core.specs.declared.status.Status.TheVariants.{Done as IsDone, Refused as IsRefused, Usage as IsUsage, ReadFault as IsReadFault, WriteFault as IsWriteFault, NoMemory as IsNoMemory}
+use Rattle.gossa_core.specs.declared.status.Status.TheVariants.{Done as IsDone, Refused as IsRefused, Usage as IsUsage}
+use Rattle.gossa_core.specs.declared.status.Status.TheVariants.{ReadFault as IsReadFault, WriteFault as IsWriteFault}
+use Rattle.gossa_core.specs.declared.status.Status.TheVariants.{NoMemory as IsNoMemory}
 use Rattle.gossa_core.specs.declared.status.Outcome.{Outcome}
-use Rattle.gossa_core.specs.declared.status.Outcome.TheVariants.{Done, NotBuilt, TooLong, Text, Check, Usage, ReadFault, WriteFault, NoMemory}
+use Rattle.gossa_core.specs.declared.status.Outcome.TheVariants.{Done, NotBuilt, TooLong, Text, Check, Usage, ReadFault}
+use Rattle.gossa_core.specs.declared.status.Outcome.TheVariants.{WriteFault, NoMemory}
 use Rattle.gossa_core.specs.declared.words.Command.{Command}
 use Rattle.gossa_core.specs.Causes.{Cause}
 use Rattle.gossa_core.specs.CheckText.{check_line}
-use Rattle.gossa_core.specs.Outputs.{input_limit, Takes}
+use Rattle.gossa_core.specs.Outputs.{Takes}
+use Rattle.ssa_ir.specs.declared.limits.TheConstants.{MAX_INPUT_BYTES}
 use Rattle.gossa_core.specs.RefusalText.{refusal_line}
 use Rattle.gossa_core.specs.Words.{command_of}
 use Rattle.gossa_core.specs.Worlds.{World, Errors}
@@ -50,11 +54,12 @@ Tells line before after =
     ⊎ (Faulted before.tell_faults after.tell_faults × AppendsPrefix before.told after.told line)
 
 -- what the program answers to these words
-pub record Answers (words : List (List ℕ)) (before after : World) (quiet spoken : Errors) (status : Status) : Type 0 where
-  pub outcome : Outcome
-  pub answered : status ≡ status_of outcome
-  pub cause : Cause (command_of words) before after outcome
-  pub line : Tells (line_of outcome) quiet spoken
+pub record Answers (words : List (List ℕ)) (before after : World) (quiet spoken : Errors) (status : Status) : Type 0
+  where
+    pub outcome : Outcome
+    pub answered : status ≡ status_of outcome
+    pub cause : Cause (command_of words) before after outcome
+    pub line : Tells (line_of outcome) quiet spoken
 
 -- where the words are a command, nothing met a fault, and the input is known, within the limit and the text of a unit
 -- that the command takes, the program is done, or there was no memory
@@ -62,6 +67,6 @@ abbrev pub IsComplete : List (List ℕ) → World → World → Status → Type 
 IsComplete words before after status =
     (c : Command) → command_of words ≡ Some c
     → ¬ Faulted before.read_faults after.read_faults → ¬ Faulted before.write_faults after.write_faults
-    → (text : List ℕ) → before.left ≡ Some text → length text ≤ input_limit
+    → (text : List ℕ) → before.left ≡ Some text → length text ≤ MAX_INPUT_BYTES
     → (u : SsaUnit) → read_unit text ≡ Ok u → Takes c u
     → (status ≡ IsDone) ⊎ (status ≡ IsNoMemory)

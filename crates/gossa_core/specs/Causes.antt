@@ -6,16 +6,18 @@ use Rattle.gossa_base.specs.Whole.{ReadsWhole, ReadsWithin, ReadsPast, AppendsPr
 use Rattle.ssa_lines.specs.declared.refusal.TextRefusal.{TextRefusal}
 use Rattle.gossa_core.specs.declared.status.CheckFault.{CheckFault}
 use Rattle.gossa_core.specs.declared.status.Outcome.{Outcome}
-use Rattle.gossa_core.specs.declared.status.Outcome.TheVariants.{Done, NotBuilt, TooLong, Text, Check, Usage, ReadFault, WriteFault, NoMemory}
+use Rattle.gossa_core.specs.declared.status.Outcome.TheVariants.{Done, NotBuilt, TooLong, Text, Check, Usage, ReadFault}
+use Rattle.gossa_core.specs.declared.status.Outcome.TheVariants.{WriteFault, NoMemory}
 use Rattle.gossa_core.specs.declared.words.Command.{Command}
-use Rattle.gossa_core.specs.Outputs.{input_limit, Makes}
+use Rattle.gossa_core.specs.Outputs.{Makes}
+use Rattle.ssa_ir.specs.declared.limits.TheConstants.{MAX_INPUT_BYTES}
 use Rattle.gossa_core.specs.Unmade.{FailsCheck, LeavesUnbuilt, Misspells}
 use Rattle.gossa_core.specs.Worlds.{World, NoReadFault, NoWriteFault, NothingRead, NothingWritten}
 
 -- the whole input was read, and the command's output of it was written
 pub record Finishes (c : Command) (before after : World) : Type 0 where
   pub text : List ℕ
-  pub read : ReadsWhole input_limit before.left after.left text
+  pub read : ReadsWhole MAX_INPUT_BYTES before.left after.left text
   pub calm_source : NoReadFault before after
   pub output : List ℕ
   pub made : Makes c text output
@@ -25,7 +27,7 @@ pub record Finishes (c : Command) (before after : World) : Type 0 where
 -- the whole input was read, and isn't compiled yet
 pub record IsNotBuilt (c : Command) (before after : World) : Type 0 where
   pub text : List ℕ
-  pub read : ReadsWhole input_limit before.left after.left text
+  pub read : ReadsWhole MAX_INPUT_BYTES before.left after.left text
   pub calm_source : NoReadFault before after
   pub unbuilt : LeavesUnbuilt c text
   pub unwritten : NothingWritten before after
@@ -33,7 +35,7 @@ pub record IsNotBuilt (c : Command) (before after : World) : Type 0 where
 -- the whole input was read, and this is its first fault
 pub record IsRefusedText (refusal : TextRefusal) (before after : World) : Type 0 where
   pub text : List ℕ
-  pub read : ReadsWhole input_limit before.left after.left text
+  pub read : ReadsWhole MAX_INPUT_BYTES before.left after.left text
   pub calm_source : NoReadFault before after
   pub refused : Misspells text refusal
   pub unwritten : NothingWritten before after
@@ -41,27 +43,27 @@ pub record IsRefusedText (refusal : TextRefusal) (before after : World) : Type 0
 -- the whole input was read, and this is the first fault of its unit
 pub record IsRefusedUnit (fault : CheckFault) (before after : World) : Type 0 where
   pub text : List ℕ
-  pub read : ReadsWhole input_limit before.left after.left text
+  pub read : ReadsWhole MAX_INPUT_BYTES before.left after.left text
   pub calm_source : NoReadFault before after
   pub refused : FailsCheck text fault
   pub unwritten : NothingWritten before after
 
--- byte `input_limit + 1` was read
+-- a byte behind the first `MAX_INPUT_BYTES` was read
 pub record IsTooLong (before after : World) : Type 0 where
-  pub read : ReadsPast input_limit before.left after.left
+  pub read : ReadsPast MAX_INPUT_BYTES before.left after.left
   pub calm_source : NoReadFault before after
   pub unwritten : NothingWritten before after
 
 -- the source met a fault
 pub record MeetsReadFault (before after : World) : Type 0 where
   pub faulted : Faulted before.read_faults after.read_faults
-  pub read : ReadsWithin input_limit before.left after.left
+  pub read : ReadsWithin MAX_INPUT_BYTES before.left after.left
   pub unwritten : NothingWritten before after
 
 -- the sink met a fault, when a prefix of the output was written
 pub record MeetsWriteFault (c : Command) (before after : World) : Type 0 where
   pub text : List ℕ
-  pub read : ReadsWhole input_limit before.left after.left text
+  pub read : ReadsWhole MAX_INPUT_BYTES before.left after.left text
   pub calm_source : NoReadFault before after
   pub output : List ℕ
   pub made : Makes c text output
@@ -70,7 +72,7 @@ pub record MeetsWriteFault (c : Command) (before after : World) : Type 0 where
 
 -- there was no memory for the input or for what is made of it, and nothing failed before that
 pub record LacksMemory (before after : World) : Type 0 where
-  pub read : ReadsWithin input_limit before.left after.left
+  pub read : ReadsWithin MAX_INPUT_BYTES before.left after.left
   pub calm_source : NoReadFault before after
   pub unwritten : NothingWritten before after
 

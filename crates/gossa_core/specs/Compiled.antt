@@ -9,8 +9,8 @@ use Rattle.ssa_check.specs.Failing.{Accepted}
 use Rattle.listing.specs.SameShow.{SameShow}
 use Rattle.listing.specs.Text.{listings_text}
 use Rattle.listing.specs.declared.code.Listings.{Listings}
-use Rattle.gossa_core.specs.Narrow.{Narrow}
-use Rattle.gossa_core.specs.Plain.{plain_listing}
+use Rattle.sum_compile.specs.Narrow.{Narrow}
+use Rattle.sum_compile.specs.Plain.{plain_listing}
 
 -- the listings of a unit, by the plain allocation
 abbrev pub listings_of : ℕ → SsaUnit → Listings
@@ -20,8 +20,8 @@ listings_of regs u = record { sigs = u.sigs; funcs = map (plain_listing regs) u.
 abbrev pub output_of : (regs : ℕ) → SsaUnit → List ℕ
 output_of regs u = listings_text (listings_of regs u) ++ cases_text (func_names u.funcs) u.cases
 
--- the text spells an accepted unit of narrow functions; the output is exactly the canonical text of the plain allocation's
--- listings of it, with its cases behind them, and the listings show what the unit shows
+-- the text spells an accepted unit of narrow functions; the output is exactly the canonical text of the plain
+-- allocation's listings of it, with its cases behind them, and the listings show what the unit shows
 pub record Compiles (regs : ℕ) (text output : List ℕ) : Type 0 where
   pub unit : SsaUnit
   pub read : read_unit text ≡ Ok unit

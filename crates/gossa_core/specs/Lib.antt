@@ -3,16 +3,9 @@ pub mod CaseText
 pub mod Causes
 pub mod CheckText
 pub mod Compiled
-pub mod Narrow
-pub mod NarrowTest
-pub mod Numbered
 pub mod Outputs
-pub mod Parameters
-pub mod Places
-pub mod Plain
 pub mod RefusalText
 pub mod Refused
-pub mod Row
 pub mod RunLengths
 pub mod ShownText
 pub mod SigTables

@@ -7,11 +7,7 @@ use Rattle.gossa_core.specs.declared.words.Command.{Command}
 use Rattle.gossa_core.specs.declared.words.Command.TheVariants.{Compile, Run}
 use Rattle.gossa_core.specs.CaseText.{Runs}
 use Rattle.gossa_core.specs.Compiled.{Compiles}
-use Rattle.gossa_core.specs.Narrow.{Narrow}
-
--- how many bytes are read at the most
-abbrev pub input_limit : ℕ
-input_limit = 8388608
+use Rattle.sum_compile.specs.Narrow.{Narrow}
 
 -- the output that a command makes of a text
 abbrev pub Makes : Command → (text output : List ℕ) → Type 0

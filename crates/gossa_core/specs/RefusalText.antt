@@ -1,9 +1,12 @@
 -- The lines that tell why a text is refused.
 use Rattle.std.specs.Prelude.{ℕ, List, ◌++◌, codes, decimal}
 use Rattle.ssa_lines.specs.declared.refusal.LimitKind.{LimitKind}
-use Rattle.ssa_lines.specs.declared.refusal.LimitKind.TheVariants.{LineBytes, Functions, Sigs, Values, Blocks, Params, Results, Args, Cases, Bound, Replies, MemBytes, JunkWords}
+use Rattle.ssa_lines.specs.declared.refusal.LimitKind.TheVariants.{LineBytes, Functions, Sigs, Values, Blocks, Params}
+use Rattle.ssa_lines.specs.declared.refusal.LimitKind.TheVariants.{Results, Args, Cases, Bound, Replies, MemBytes}
+use Rattle.ssa_lines.specs.declared.refusal.LimitKind.TheVariants.{JunkWords}
 use Rattle.ssa_lines.specs.declared.refusal.TextRefusal.{TextRefusal}
-use Rattle.ssa_lines.specs.declared.refusal.TextRefusal.TheVariants.{BadByte, BadLine, UnknownOp, NumberTooLarge, Duplicate, UnknownRef, Limit, NoMemory}
+use Rattle.ssa_lines.specs.declared.refusal.TextRefusal.TheVariants.{BadByte, BadLine, UnknownOp, NumberTooLarge}
+use Rattle.ssa_lines.specs.declared.refusal.TextRefusal.TheVariants.{Duplicate, UnknownRef, Limit, NoMemory}
 
 -- what is wrong where a limit is passed
 abbrev pub limit_text : LimitKind → List ℕ

@@ -1,7 +1,8 @@
 -- How the program ends where a part of it refuses.
 use Rattle.std.specs.Prelude.{ℕ, List, Result, Ok, Err}
 use Rattle.gossa_base.specs.declared.whole.ReadRefusal.{ReadRefusal}
-use Rattle.gossa_base.specs.declared.whole.ReadRefusal.TheVariants.{ReadFault as SourceFails, TooLong as PastLimit, NoMemory as Unheld}
+use Rattle.gossa_base.specs.declared.whole.ReadRefusal.TheVariants.{ReadFault as SourceFails, TooLong as PastLimit}
+use Rattle.gossa_base.specs.declared.whole.ReadRefusal.TheVariants.{NoMemory as Unheld}
 use Rattle.ssa_lines.specs.declared.refusal.TextRefusal.{TextRefusal}
 use Rattle.ssa_lines.specs.declared.refusal.TextRefusal.TheVariants.{NoMemory as Wanting}
 use Rattle.ssa_check.specs.declared.refusal.Fault.{Fault}

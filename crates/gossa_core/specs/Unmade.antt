@@ -9,10 +9,11 @@ use Rattle.ssa_check.specs.declared.refusal.Fault.{Fault}
 use Rattle.ssa_check.specs.Failing.{Accepted, FirstFault}
 use Rattle.gossa_core.specs.declared.status.CheckFault.{CheckFault}
 use Rattle.gossa_core.specs.declared.status.Outcome.{Outcome}
-use Rattle.gossa_core.specs.declared.status.Outcome.TheVariants.{Done, NotBuilt, TooLong, Text, Check, Usage, ReadFault, WriteFault, NoMemory}
+use Rattle.gossa_core.specs.declared.status.Outcome.TheVariants.{Done, NotBuilt, TooLong, Text, Check, Usage, ReadFault}
+use Rattle.gossa_core.specs.declared.status.Outcome.TheVariants.{WriteFault, NoMemory}
 use Rattle.gossa_core.specs.declared.words.Command.{Command}
 use Rattle.gossa_core.specs.declared.words.Command.TheVariants.{Compile, Run}
-use Rattle.gossa_core.specs.Narrow.{Narrow}
+use Rattle.sum_compile.specs.Narrow.{Narrow}
 
 -- the text spells no unit, and this is its first fault; want of memory is no fault of a text
 abbrev pub Misspells : List ℕ → TextRefusal → Type 0

@@ -7,7 +7,8 @@ use Rattle.gossa_core.specs.declared.words.Command.TheVariants.{Compile, Run}
 -- the command of one word
 abbrev pub command_named : List ℕ → Option Command
 command_named word =
-    if pointwise nat_eq word (codes "compile") then Some (Compile 24) else (if pointwise nat_eq word (codes "run") then Some Run else None)
+    if pointwise nat_eq word (codes "compile") then Some
+    (Compile 24) else (if pointwise nat_eq word (codes "run") then Some Run else None)
 
 -- the command of these words, if they are one
 abbrev pub command_of : List (List ℕ) → Option Command

@@ -1,10 +1,11 @@
-//! The passes joined: from the words of a command and the bytes of a unit to the bytes of its listings, or of what its cases
-//! show.
+//! The passes joined: from the words of a command and the bytes of a unit to the bytes of its listings, or of what its
+//! cases show.
 //!
-//! [`gossa`] is the whole program but for its real streams. Each command reads a unit's text and asks the checks of each
-//! function (`ssa_check`). `compile` then sees that each is one that is compiled so far ([`all_narrow`]), places each value in
-//! a word of the frame ([`allocate_all`]), and writes the listings, with the cases behind them. `run` runs each case
-//! (`ssa_meaning`), and writes what it shows ([`print_shown`]).
+//! [`gossa`] is the whole program but for its real streams. Each command reads a unit's text and asks the checks of
+//! each function (`ssa_check`). `compile` then sees that each is one that is compiled so far
+//! ([`sum_compile::all_narrow`]), places each value in a word of the frame ([`sum_compile::allocate_all`]), and writes
+//! the listings, with the cases behind them. `run` runs each case (`ssa_meaning`), and writes what it shows
+//! ([`print_shown`]).
 //!
 //! ```text
 //! v4 = Add64 <int64> v2 v3      MOVD 8(RSP), R0 // load v2
@@ -13,17 +14,13 @@
 //!                               MOVD R0, 24(RSP) // spill v4
 //! ```
 //!
-//! Known limits: the commands are `compile` and `run`. What is compiled are functions of one block that add parameters and
-//! constants of type int64, with their values numbered in order; a text of another function that meets the checks is
-//! refused by `compile` as not built, and run by `run`. A text of too many bytes is refused as too long; a text that spells
-//! no unit, and a unit that fails a check, by its first fault.
+//! Known limits: the commands are `compile` and `run`. What is compiled are functions of one block that add parameters
+//! and constants of type int64, with their values numbered in order; a text of another function that meets the checks
+//! is refused by `compile` as not built, and run by `run`. A text of too many bytes is refused as too long; a text that
+//! spells no unit, and a unit that fails a check, by its first fault.
 #![tactic(auto)]
 
-pub mod laws;
 mod names;
-mod narrow;
-mod places;
-mod plain;
 mod run;
 mod shown;
 mod sig_table;
@@ -32,8 +29,6 @@ mod telling;
 pub mod top;
 pub mod words;
 
-pub use narrow::{all_narrow, is_narrow};
-pub use plain::{allocate, allocate_all};
 pub use shown::print_shown;
 pub use status::{CheckFault, Outcome, Status};
 pub use telling::tell;

@@ -64,8 +64,9 @@ fn put_case(
     requires table { Finds sigs.now table.now }
     ensures { OnOk result (out.new.items ≡ out.old.items ++ spec.case_text checked.now case.now) }
 {
-    let shown = run_case(alloc, checked, case)?;
-    let func = &checked.unit().funcs.as_slice()[case.func as usize];
+    let unit = checked.unit();
+    let shown = run_case(alloc, unit, case)?;
+    let func = &unit.funcs.as_slice()[case.func as usize];
     put_shown(out, &func.sig.name, case.bound, sigs, table, &shown)
 }
 

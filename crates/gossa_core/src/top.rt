@@ -6,19 +6,18 @@ ghost use Rattle.std.specs.List.{All};
 ghost use Rattle.ssa_ir.specs.WellFormed.{WellFormed};
 ghost use Rattle.ssa_text.specs.UnitReading as spelling;
 ghost use Rattle.ssa_check.specs.Failing.{Accepted, FirstFault};
-ghost use Rattle.gossa_core.specs.Narrow.{Narrow};
+ghost use Rattle.sum_compile.specs.Narrow.{Narrow};
 ghost use Rattle.gossa_core.specs.declared.words.Command.{Command as IrCommand};
 ghost use Rattle.gossa_core.specs.declared.words.Command.TheVariants as command;
 ghost use Rattle.gossa_core.specs.Answer.{Answers, IsComplete};
 ghost use Rattle.gossa_core.specs.Causes.{CommandCause, Cause};
 ghost use Rattle.gossa_core.specs.Compiled.{output_of};
-ghost use Rattle.gossa_core.specs.Outputs.{input_limit, Makes};
+ghost use Rattle.gossa_core.specs.Outputs.{Makes};
+ghost use Rattle.ssa_ir.specs.declared.limits.TheConstants.{MAX_INPUT_BYTES};
 ghost use Rattle.gossa_core.specs.Unmade.{Unchecked, Unmade};
 ghost use Rattle.gossa_core.specs.Words.{command_of, HasRegisters};
 
 use crate::names::same_name;
-use crate::narrow::all_narrow;
-use crate::plain::allocate_all;
 use crate::run::show_cases;
 use crate::status::{Outcome, Status};
 use crate::telling::tell;
@@ -27,18 +26,17 @@ use gossa_base::{Bytes, Failed, NoMemory, Sequence, Sink, Source, put, read_all,
 use listing::{Listings, print_listing};
 use ssa_check::{CheckRefusal, Checked, Fault, check};
 use ssa_ir::SsaUnit;
+use ssa_ir::limits::MAX_INPUT_BYTES;
 use ssa_text::{print_unit_cases, read_unit};
 use std::alloc::Global;
-
-/// How many bytes are read at the most.
-const INPUT_LIMIT: usize = 8_388_608;
+use sum_compile::{all_narrow, allocate_all};
 
 /// Does what the words say: reads `source`, writes to `sink`, and one line to `errs` where that went wrong.
 ///
-/// The words are looked at first, then the input is read to its end, then the unit that it spells is checked, then it is
-/// judged and compiled, or its cases are run, and then all output is written. So nothing is in `sink` unless the answer is
-/// `Done` or `WriteFault`. A fault ends it: `source` met none unless the answer is `ReadFault`, and `sink` none unless it is
-/// `WriteFault`.
+/// The words are looked at first, then the input is read to its end, then the unit that it spells is checked, then it
+/// is judged and compiled, or its cases are run, and then all output is written. So nothing is in `sink` unless the
+/// answer is `Done` or `WriteFault`. A fault ends it: `source` met none unless the answer is `ReadFault`, and `sink`
+/// none unless it is `WriteFault`.
 pub fn gossa<S: Source, K: Sink, E: Sink>(
     alloc: Global,
     words: &[String],
@@ -47,14 +45,34 @@ pub fn gossa<S: Source, K: Sink, E: Sink>(
     errs: &mut E,
 ) -> Status
     ensures answers { Answers (map string_bytes words.now)
-        (record { left = S.left source.old; read_faults = S.faults source.old; held = K.held sink.old; write_faults = K.faults sink.old })
-        (record { left = S.left source.new; read_faults = S.faults source.new; held = K.held sink.new; write_faults = K.faults sink.new })
+        (record {
+          left = S.left source.old;
+          read_faults = S.faults source.old;
+          held = K.held sink.old;
+          write_faults = K.faults sink.old;
+        })
+        (record {
+          left = S.left source.new;
+          read_faults = S.faults source.new;
+          held = K.held sink.new;
+          write_faults = K.faults sink.new;
+        })
         (record { told = E.held errs.old; tell_faults = E.faults errs.old })
         (record { told = E.held errs.new; tell_faults = E.faults errs.new })
         result }
     ensures complete { IsComplete (map string_bytes words.now)
-        (record { left = S.left source.old; read_faults = S.faults source.old; held = K.held sink.old; write_faults = K.faults sink.old })
-        (record { left = S.left source.new; read_faults = S.faults source.new; held = K.held sink.new; write_faults = K.faults sink.new })
+        (record {
+          left = S.left source.old;
+          read_faults = S.faults source.old;
+          held = K.held sink.old;
+          write_faults = K.faults sink.old;
+        })
+        (record {
+          left = S.left source.new;
+          read_faults = S.faults source.new;
+          held = K.held sink.new;
+          write_faults = K.faults sink.new;
+        })
         result }
 {
     let outcome = answer(alloc, words, source, sink);
@@ -70,8 +88,18 @@ fn answer<S: Source, K: Sink>(
     sink: &mut K,
 ) -> Outcome
     ensures { Cause (command_of (map string_bytes words.now))
-        (record { left = S.left source.old; read_faults = S.faults source.old; held = K.held sink.old; write_faults = K.faults sink.old })
-        (record { left = S.left source.new; read_faults = S.faults source.new; held = K.held sink.new; write_faults = K.faults sink.new })
+        (record {
+          left = S.left source.old;
+          read_faults = S.faults source.old;
+          held = K.held sink.old;
+          write_faults = K.faults sink.old;
+        })
+        (record {
+          left = S.left source.new;
+          read_faults = S.faults source.new;
+          held = K.held sink.new;
+          write_faults = K.faults sink.new;
+        })
         result }
 {
     match read_words(words) {
@@ -89,11 +117,21 @@ fn obey<S: Source, K: Sink>(
 ) -> Outcome
     requires { HasRegisters command }
     ensures { CommandCause command
-        (record { left = S.left source.old; read_faults = S.faults source.old; held = K.held sink.old; write_faults = K.faults sink.old })
-        (record { left = S.left source.new; read_faults = S.faults source.new; held = K.held sink.new; write_faults = K.faults sink.new })
+        (record {
+          left = S.left source.old;
+          read_faults = S.faults source.old;
+          held = K.held sink.old;
+          write_faults = K.faults sink.old;
+        })
+        (record {
+          left = S.left source.new;
+          read_faults = S.faults source.new;
+          held = K.held sink.new;
+          write_faults = K.faults sink.new;
+        })
         result }
 {
-    let text = match read_all(alloc, source, INPUT_LIMIT) {
+    let text = match read_all(alloc, source, MAX_INPUT_BYTES) {
         Ok(text) => text,
         Err(refusal) => return Outcome::from(refusal),
     };
@@ -108,7 +146,7 @@ fn obey<S: Source, K: Sink>(
 
 // What the command makes of a text, or how the program ends without any output.
 fn make_output(alloc: Global, command: Command, text: &[u8]) -> Result<Bytes, Outcome>
-    requires few { length text.now ≤ input_limit }
+    requires few { length text.now ≤ MAX_INPUT_BYTES }
     requires registers { HasRegisters command }
     ensures made { IfOk result (λ output. Makes command text.now output) }
     ensures unmade { IfErr result (λ outcome. Unmade command text.now outcome) }
@@ -121,7 +159,7 @@ fn make_output(alloc: Global, command: Command, text: &[u8]) -> Result<Bytes, Ou
 
 // The listings of the unit that this text spells, or how the program ends without any.
 fn compile_text(alloc: Global, text: &[u8], regs: u32) -> Result<Bytes, Outcome>
-    requires few { length text.now ≤ input_limit }
+    requires few { length text.now ≤ MAX_INPUT_BYTES }
     requires many { 16 ≤ regs }
     requires most { regs ≤ 24 }
     ensures made { IfOk result (λ output. Makes (command.Compile regs) text.now output) }
@@ -140,7 +178,7 @@ fn compile_text(alloc: Global, text: &[u8], regs: u32) -> Result<Bytes, Outcome>
 
 // What the cases of the unit that this text spells show, or how the program ends without that.
 fn run_text(alloc: Global, text: &[u8]) -> Result<Bytes, Outcome>
-    requires few { length text.now ≤ input_limit }
+    requires few { length text.now ≤ MAX_INPUT_BYTES }
     ensures made { IfOk result (λ output. Makes command.Run text.now output) }
     ensures unmade { IfErr result (λ outcome. Unmade command.Run text.now outcome) }
 {
@@ -153,7 +191,7 @@ fn run_text(alloc: Global, text: &[u8]) -> Result<Bytes, Outcome>
 
 // The unit that this text spells and that all checks accept, or how the program ends without one.
 fn read_checked(alloc: Global, text: &[u8]) -> Result<Checked, Outcome>
-    requires few { length text.now ≤ input_limit }
+    requires few { length text.now ≤ MAX_INPUT_BYTES }
     ensures spelled { IfOk result (λ checked. spelling.read_unit text.now ≡ Ok checked) }
     ensures accepted { IfOk result Accepted }
     ensures unmade { (c : IrCommand) → IfErr result (λ outcome. Unmade c text.now outcome) }
@@ -164,7 +202,7 @@ fn read_checked(alloc: Global, text: &[u8]) -> Result<Checked, Outcome>
 
 // The unit that this text spells, or how the program ends without one.
 fn read_text(alloc: Global, text: &[u8]) -> Result<SsaUnit, Outcome>
-    requires few { length text.now ≤ input_limit }
+    requires few { length text.now ≤ MAX_INPUT_BYTES }
     ensures spelled { IfOk result (λ unit. spelling.read_unit text.now ≡ Ok unit) }
     ensures well_formed { IfOk result WellFormed }
     ensures unmade { (c : IrCommand) → IfErr result (λ outcome. Unmade c text.now outcome) }

@@ -9,8 +9,8 @@ use Rattle.gossa_core.specs.declared.status.Outcome.TheVariants.{NoMemory}
 use Rattle.gossa_core.specs.declared.status.Status.{Status}
 use Rattle.gossa_core.specs.declared.status.Status.TheVariants.{NoMemory as IsNoMemory}
 
--- the words of the command: all that the process is called with but for the first, which is its own name, in order; none
--- where one of them is no text
+-- the words of the command: all that the process is called with but for the first, which is its own name, in order;
+-- none where one of them is no text
 abbrev pub words_given : {A Z E : Type 0} → Result (IntoIter (String A) Z) E → List (String A)
 words_given (Ok args) = drop 1 (into_iter_items args)
 words_given (Err _) = []

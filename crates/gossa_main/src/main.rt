@@ -38,8 +38,18 @@ fn run<S: Source, K: Sink, E: Sink>(
     errs: &mut E,
 ) -> ExitCode
     ensures { Ends (map string_bytes (words_given given))
-        (record { left = S.left source.old; read_faults = S.faults source.old; held = K.held sink.old; write_faults = K.faults sink.old })
-        (record { left = S.left source.new; read_faults = S.faults source.new; held = K.held sink.new; write_faults = K.faults sink.new })
+        (record {
+          left = S.left source.old;
+          read_faults = S.faults source.old;
+          held = K.held sink.old;
+          write_faults = K.faults sink.old;
+        })
+        (record {
+          left = S.left source.new;
+          read_faults = S.faults source.new;
+          held = K.held sink.new;
+          write_faults = K.faults sink.new;
+        })
         (record { told = E.held errs.old; tell_faults = E.faults errs.old })
         (record { told = E.held errs.new; tell_faults = E.faults errs.new })
         (exit_status result) }
@@ -56,8 +66,18 @@ fn obey<S: Source, K: Sink, E: Sink>(
     errs: &mut E,
 ) -> Status
     ensures { Does (map string_bytes (words_given given))
-        (record { left = S.left source.old; read_faults = S.faults source.old; held = K.held sink.old; write_faults = K.faults sink.old })
-        (record { left = S.left source.new; read_faults = S.faults source.new; held = K.held sink.new; write_faults = K.faults sink.new })
+        (record {
+          left = S.left source.old;
+          read_faults = S.faults source.old;
+          held = K.held sink.old;
+          write_faults = K.faults sink.old;
+        })
+        (record {
+          left = S.left source.new;
+          read_faults = S.faults source.new;
+          held = K.held sink.new;
+          write_faults = K.faults sink.new;
+        })
         (record { told = E.held errs.old; tell_faults = E.faults errs.old })
         (record { told = E.held errs.new; tell_faults = E.faults errs.new })
         result }
@@ -71,8 +91,8 @@ fn obey<S: Source, K: Sink, E: Sink>(
     }
 }
 
-// The words of the command: all words that the process is called with, but for its own name. A word that is no text is in
-// no command, so then there are none.
+// The words of the command: all words that the process is called with, but for its own name. A word that is no text is
+// in no command, so then there are none.
 fn command_words(alloc: Global, given: io::Result<Args>) -> Result<Vec<String>, NoMemory>
     ensures { IfOk result (λ words. words.items ≡ words_given given) }
 {

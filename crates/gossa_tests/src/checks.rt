@@ -1,15 +1,15 @@
 // Checks of units, and runs of those that meet them: each call once at its types.
 
 ghost use Rattle.std.specs.Prelude.{◌≡◌, ◌≤◌, length};
-ghost use Rattle.ssa_check.specs.SignatureTable.{names_of};
+ghost use Rattle.ssa_tables.specs.SignatureTable.{names_of};
 
 use crate::dumps::{CASES, MARKED};
 use crate::made::{checked_text, unit_of_text};
 use gossa_base::{Name, NoMemory, ValueId};
-use ssa_check::signatures::SignatureTable;
 use ssa_check::{At, Check, CheckRefusal, Checked, Fault, check};
 use ssa_ir::{End, SsaUnit};
 use ssa_meaning::run_case;
+use ssa_tables::SignatureTable;
 use ssa_text::print_unit;
 use std::alloc::Global;
 use std::test::Fail;
@@ -134,7 +134,7 @@ fn shown_of(alloc: Global, checked: &Checked, number: usize) -> Result<(usize, O
     let unit = checked.unit();
     match unit.cases.as_slice().get(number) {
         Some(case) if (case.func as usize) < unit.funcs.len() => {
-            let shown = run_case(alloc, checked, case)?;
+            let shown = run_case(alloc, unit, case)?;
             let calls = shown.calls.len();
             match &shown.end {
                 End::Returned(words, _) => Ok((calls, words.as_slice().first().copied())),

@@ -3,14 +3,13 @@
 use crate::dumps::{CASES, MARKED};
 use crate::made::{owned, unit_of_text};
 use gossa_base::{Bytes, MemSink, MemSource, NoMemory, Sequence};
-use gossa_core::{
-    Command, Status, all_narrow, allocate, allocate_all, gossa, is_narrow, read_words,
-};
+use gossa_core::{Command, Status, gossa, read_words};
 use listing::{ListingList, Listings, print_listing};
 use ssa_ir::Func;
 use std::alloc::Global;
 use std::process::Abort;
 use std::test::Fail;
+use sum_compile::{all_narrow, allocate, allocate_all, is_narrow};
 
 #[test]
 fn knows_its_words(rt: HostRuntime) -> Result<(), Fail> {

@@ -1,9 +1,9 @@
 // Functions just beside those that are compiled so far, which a check refuses before the program asks this.
 
 use crate::made::unit_of_text;
-use gossa_core::all_narrow;
 use std::alloc::{AllocError, Global};
 use std::test::Fail;
+use sum_compile::all_narrow;
 
 const EXAMPLE: &str = "func f(int64, int64) (int64)\n\
 b1:\n\

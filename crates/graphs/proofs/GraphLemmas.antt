@@ -1,5 +1,6 @@
 -- The graph of nodes and edges has exactly these edges.
-use Rattle.std.proofs.Common.{◌≡◌, ℕ, zero, suc, ◌==◌, ◌<◌, ◌⊎◌, inl, inr, Bool, true, false, ◌&&◌, ◌||◌, List, [], ◌∷◌, ◌++◌, length, get_or, set, map, replicate, Vec, Global, refl, subst, sym, ap, ◌∙◌, arith}
+use Rattle.std.proofs.Common.{◌≡◌, ℕ, zero, suc, ◌==◌, ◌<◌, ◌⊎◌, inl, inr, Bool, true, false, ◌&&◌, ◌||◌, List, [], ◌∷◌}
+use Rattle.std.proofs.Common.{◌++◌, length, get_or, set, map, replicate, Vec, Global, refl, subst, sym, ap, ◌∙◌, arith}
 use Rattle.std.specs.List.{All, fold, list_any}
 use Rattle.std.proofs.lemmas.Bool.{cases_eq, eq-eqb, ne_eqb}
 use Rattle.std.proofs.lemmas.List.{get_or-set_other, get_or-set_same, length-replicate, length-set, map-set}
@@ -7,28 +8,6 @@ use Rattle.std.proofs.lemmas.List.Elements.{All-head, All-tail}
 use Rattle.std.proofs.lemmas.List.Folds.{list_any-append}
 use Rattle.graphs.specs.declared.graph.Edge.{Edge}
 use Rattle.graphs.specs.Graphs.{among, graph_of, has_edge, targets, with_edge}
-
--- lists that are all empty
-pub map_empty : (n : ℕ) (lists : List (Vec ℕ Global)) → length lists ≡ n → All (λ v. v.items ≡ []) lists
-    → map (λ v. v.items) lists ≡ replicate n []
-map_empty zero [] n all = refl
-map_empty zero (v ∷ lists) n all = cc
-map_empty (suc n) [] m all = cc
-map_empty (suc n) (v ∷ lists) m all =
-    let here : v.items ≡ [] = all zero v (omega arith) in
-    let rest : map (λ (w : Vec ℕ Global). w.items) lists ≡ replicate n [] =
-    map_empty n lists (omega (arith, m)) (All-tail (λ w. w.items ≡ []) v lists all) in
-    ap (λ xs. xs ∷ map (λ (w : Vec ℕ Global). w.items) lists) here ∙ ap (λ rest. [] ∷ rest) rest
-
-pub map_set : (lists : List (Vec ℕ Global)) (i : ℕ) (v : Vec ℕ Global)
-    → map (λ w. w.items) (set lists i v) ≡ set (map (λ w. w.items) lists) i v.items
-map_set lists i v = map-set (λ (w : Vec ℕ Global). w.items) lists i v
-
-pub get_map : (lists : List (Vec ℕ Global)) (i : ℕ) (d : Vec ℕ Global) → i < length lists
-    → get_or (map (λ w. w.items) lists) i [] ≡ (get_or lists i d).items
-get_map [] i d within = absurd (omega (arith, within))
-get_map (v ∷ lists) zero d within = refl
-get_map (v ∷ lists) (suc i) d within = get_map lists i d (omega (arith, within))
 
 -- ---- the edges of a graph
 
@@ -62,7 +41,8 @@ one_more graph e u v within = by_source (cases_eq u e.source)
         ∙ ap (λ b. among (targets graph u) v || b)
         (or_none (e.target == v) ∙ ap (λ b. b && (e.target == v)) (sym (eq-eqb e.source u (sym same))))
     by_source (inr differ) =
-        ap (λ nodes. among nodes v) (get_or-set_other graph e.source u (targets graph e.source ++ e.target ∷ []) [] differ)
+        ap (λ nodes. among nodes v)
+        (get_or-set_other graph e.source u (targets graph e.source ++ e.target ∷ []) [] differ)
         ∙ sym (or_none (has_edge graph u v))
         ∙ ap (λ b. has_edge graph u v || (b && (e.target == v))) (sym (ne_eqb e.source u (λ same. differ (sym same))))
 
@@ -72,7 +52,8 @@ fold_edges graph [] u v within = sym (or_none (has_edge graph u v))
 fold_edges graph (e ∷ edges) u v within =
     let rest : All (λ d. d.source < length graph) edges = All-tail (λ d. d.source < length graph) e edges within in
     let longer : All (λ d. d.source < length (with_edge graph e)) edges =
-    subst (λ n. All (λ d. d.source < n) edges) (sym (length-set graph e.source (targets graph e.source ++ e.target ∷ []))) rest in
+    subst (λ n. All (λ d. d.source < n) edges)
+    (sym (length-set graph e.source (targets graph e.source ++ e.target ∷ []))) rest in
     fold_edges (with_edge graph e) edges u v longer
     ∙ ap (λ b. b || have_edge edges u v) (one_more graph e u v (All-head (λ d. d.source < length graph) e edges within))
     ∙ or_assoc (has_edge graph u v) (is_edge u v e) (have_edge edges u v)
@@ -89,5 +70,6 @@ no_edge n u v = ap (λ (nodes : List ℕ). among nodes v) (no_targets n u)
 pub graph_has : (n : ℕ) (edges : List Edge) (u v : ℕ) → All (λ e. e.source < n) edges
     → has_edge (graph_of n edges) u v ≡ have_edge edges u v
 graph_has n edges u v within =
-    fold_edges (replicate n []) edges u v (subst (λ m. All (λ e. e.source < m) edges) (sym (length-replicate n [])) within)
+    fold_edges (replicate n []) edges u v
+    (subst (λ m. All (λ e. e.source < m) edges) (sym (length-replicate n [])) within)
     ∙ ap (λ b. b || have_edge edges u v) (no_edge n u v)

@@ -1,6 +1,7 @@
 -- A search reaches what paths lead to, and nothing else: what holds while it goes on, as long as the node that it
 -- began with hasn't come up again.
-use Rattle.std.proofs.Common.{◌≡◌, ℕ, zero, suc, ◌<◌, ◌≢◌, ◌⊎◌, inl, inr, true, false, List, [], ◌∷◌, ◌++◌, length, get_or, replicate, subst, sym, ap, ◌∙◌}
+use Rattle.std.proofs.Common.{◌≡◌, ℕ, zero, suc, ◌<◌, ◌≢◌, ◌⊎◌, inl, inr, true, false, List, [], ◌∷◌, ◌++◌, length}
+use Rattle.std.proofs.Common.{get_or, replicate, subst, sym, ap, ◌∙◌}
 use Rattle.std.specs.List.{All}
 use Rattle.std.proofs.lemmas.List.{length-replicate}
 use Rattle.graphs.specs.Graphs.{ComesBack, among, has_edge, targets}
@@ -59,7 +60,8 @@ pub begins : (graph : List (List ℕ)) (start : ℕ) → All (λ v. v < length g
 begins graph start within =
     begins_from graph start (reach_all (nothing (length graph)) (targets graph start))
     (grows_all (nothing (length graph)) (targets graph start)
-    (λ k h. subst (λ m. k < m) (sym (length-replicate (length graph) false)) (among_within (length graph) (targets graph start) within k h)))
+    (λ k h. subst (λ m. k < m) (sym (length-replicate (length graph) false))
+    (among_within (length graph) (targets graph start) within k h)))
 
 module _ (graph : List (List ℕ)) (start node : ℕ) (s rest t : Reached) (same : rest.seen ≡ s.seen)
     (taken : s.waiting ≡ rest.waiting ++ node ∷ []) (differ : node ≢ start) (search : Searches graph start s)
@@ -133,7 +135,8 @@ pub follow_grows : (graph : List (List ℕ)) (node : ℕ) (s rest : Reached) →
     → length s.seen ≡ length graph → Grows rest (reach_all rest (targets graph node)) (targets graph node)
 follow_grows graph node s rest same within nodes =
     grows_all rest (targets graph node)
-    (λ k h. subst (λ m. k < m) (sym (ap length same ∙ nodes)) (among_within (length graph) (targets graph node) within k h))
+    (λ k h. subst (λ m. k < m) (sym (ap length same ∙ nodes))
+    (among_within (length graph) (targets graph node) within k h))
 
 -- one step: a node that waited is left, and all nodes behind it are reached
 pub follows : (graph : List (List ℕ)) (start node : ℕ) (s rest : Reached) → rest.seen ≡ s.seen
@@ -150,7 +153,8 @@ pub found : (graph : List (List ℕ)) (start : ℕ) (s : Reached) (rest : List �
     → ComesBack graph start
 found graph start s rest taken search =
     search.leads start (search.waiting_seen start
-    (subst (λ waiting. among waiting start ≡ true) (sym taken) (among_back rest (start ∷ []) start (among_here start []))))
+    (subst (λ waiting. among waiting start ≡ true) (sym taken)
+    (among_back rest (start ∷ []) start (among_here start []))))
 
 -- where none waits, it doesn't
 pub ended : (graph : List (List ℕ)) (start : ℕ) (s : Reached) → s.waiting ≡ [] → Searches graph start s
@@ -168,7 +172,8 @@ ended graph start s none search back = start_seen (search.start_waits reached)
 
     reached : is_seen s start ≡ true
     reached =
-        ends_in (has_edge graph) (λ k. is_seen s k ≡ true) (λ k v here edge. by_cases k v edge (search.closed k here)) start search.first
+        ends_in (has_edge graph) (λ k. is_seen s k ≡ true) (λ k v here edge. by_cases k v edge (search.closed k here))
+        start search.first
         back.0 start back.1
 
     start_seen : among s.waiting start ≡ true → ⊥

@@ -1,5 +1,6 @@
 -- A function's code, and what is so of every one.
-use Rattle.std.specs.Prelude.{◌≡◌, ℕ, ◌≤◌, ◌==◌, nat_le, nat_lt, nat_eq, Bool, true, false, not, ◌&&◌, ◌||◌, IsTrue, List, [], ◌∷◌, ◌++◌, length, map, filter, flat_map, Option, None, Some}
+use Rattle.std.specs.Prelude.{◌≡◌, ℕ, ◌≤◌, ◌==◌, nat_le, nat_lt, nat_eq, Bool, true, false, not, ◌&&◌, ◌||◌, IsTrue}
+use Rattle.std.specs.Prelude.{List, [], ◌∷◌, ◌++◌, length, map, filter, flat_map, Option, None, Some}
 use Rattle.std.specs.List.{list_all, list_any, range_with_len}
 use Rattle.std.specs.Cmp.Lexicographic.{pointwise}
 use Rattle.gossa_base.specs.declared.ids.BlockId.{BlockId}
@@ -11,8 +12,8 @@ use Rattle.listing.specs.declared.line.Line.TheVariants.{Label, Op as Compute, M
 use Rattle.listing.specs.declared.line.Place.{Place}
 use Rattle.listing.specs.declared.line.Place.TheVariants.{Reg, Out, Arg, Const, Addr}
 
--- a function's code: its signature, the number of registers that it may use, the symbols that its lines name, the lines,
--- and how many outgoing words and argument words it has
+-- a function's code: its signature, the number of registers that it may use, the symbols that its lines name, the
+-- lines, and how many outgoing words and argument words it has
 pub record CodeParts : Type 0 where
   pub sig : Sig
   pub regs : ℕ
@@ -129,4 +130,5 @@ pub record IsCode (c : CodeParts) : Type 0 where
   pub arguments_there : IsTrue (list_all (λ j. nat_lt j c.arg_words) (flat_map line_arguments c.lines))
   pub labels_once : IsTrue (all_differ same_block (flat_map line_label c.lines))
   -- every block that a line goes to has a label
-  pub targets_there : IsTrue (list_all (λ b. list_any (same_block b) (flat_map line_label c.lines)) (flat_map line_target c.lines))
+  pub targets_there : IsTrue
+      (list_all (λ b. list_any (same_block b) (flat_map line_label c.lines)) (flat_map line_target c.lines))

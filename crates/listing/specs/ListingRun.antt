@@ -1,6 +1,7 @@
--- The run of a listing: its lines are followed from the first. The label of a counted block is a turn. Past the last line,
--- or after more lines than there are without a counted label, it is stuck.
-use Rattle.std.specs.Prelude.{ℕ, zero, suc, ◌+◌, ◌==◌, Bool, false, if◌then◌else◌, List, [], ◌∷◌, length, Option, None, Some, slice_get}
+-- The run of a listing: its lines are followed from the first. The label of a counted block is a turn. Past the last
+-- line, or after more lines than there are without a counted label, it is stuck.
+use Rattle.std.specs.Prelude.{ℕ, zero, suc, ◌+◌, ◌==◌, Bool, false, if◌then◌else◌, List, [], ◌∷◌, length, Option, None}
+use Rattle.std.specs.Prelude.{Some, slice_get}
 use Rattle.gossa_base.specs.Words.{low}
 use Rattle.ssa_ir.specs.declared.abi.AbiPlace.{AbiPlace}
 use Rattle.ssa_ir.specs.declared.abi.AbiPlace.TheVariants.{Reg, Word}
@@ -36,10 +37,10 @@ argument_or inputs junk (Some i) = argument inputs i
 abbrev pub first_word : Inputs → Code → AbiPlace → ℕ → ℕ
 first_word inputs code p junk = argument_or inputs junk (parameter_at 0 p (parameter_places code.regs code.sig))
 
--- before the first line: each parameter stands in its place, and all else is junk. Register Rn has item n of the junk, the
--- flags the low bits of item 31, the frame's words the items from 32 on (outgoing, then the others), and the argument words
--- the items behind those; w is the number of the frame's words. A home without a frame word has the item of its number
--- behind the outgoing words
+-- before the first line: each parameter stands in its place, and all else is junk. Register Rn has item n of the junk,
+-- the flags the low bits of item 31, the frame's words the items from 32 on (outgoing, then the others), and the
+-- argument words the items behind those; w is the number of the frame's words. A home without a frame word has the item
+-- of its number behind the outgoing words
 abbrev pub begun : Inputs → Code → ℕ → Machine
 begun inputs code w = record {
   registers = λ r. first_word inputs code (Reg r) (junk_word inputs r);
@@ -66,11 +67,13 @@ follow callees inputs code maps turn (suc k) i m =
 -- at most n turns, from behind a counted label on
 abbrev pub turns : Callees → Inputs → Code → Option (List Map) → (n : ℕ) → Onward
 turns callees inputs code maps zero i m = ends Going
-turns callees inputs code maps (suc n) i m = follow callees inputs code maps (turns callees inputs code maps n) (length code.lines + 1) i m
+turns callees inputs code maps (suc n) i m =
+    follow callees inputs code maps (turns callees inputs code maps n) (length code.lines + 1) i m
 
 -- what code shows with a bound of n turns, in a frame of w words
 abbrev pub run_code : Callees → Inputs → Code → Option (List Map) → (w n : ℕ) → Shown
-run_code callees inputs code maps w n = follow callees inputs code maps (turns callees inputs code maps n) (length code.lines + 1) 0 (begun inputs code w)
+run_code callees inputs code maps w n =
+    follow callees inputs code maps (turns callees inputs code maps n) (length code.lines + 1) 0 (begun inputs code w)
 
 -- what a function's listing shows with a bound of n turns
 abbrev pub run_listing : Callees → Inputs → Listing → ℕ → Shown

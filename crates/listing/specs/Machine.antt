@@ -1,5 +1,6 @@
 -- The machine: registers, flags, memory and words of the stack, and what one line does to them.
-use Rattle.std.specs.Prelude.{ℕ, suc, ℤ, ◌==◌, Bool, true, false, if◌then◌else◌, List, [], ◌∷◌, map, Option, None, Some, slice_index_or}
+use Rattle.std.specs.Prelude.{ℕ, suc, ℤ, ◌==◌, Bool, true, false, if◌then◌else◌, List, [], ◌∷◌, map, Option, None, Some}
+use Rattle.std.specs.Prelude.{slice_index_or}
 use Rattle.gossa_base.specs.declared.ids.BlockId.{BlockId}
 use Rattle.gossa_base.specs.Memory.{Memory, changed}
 use Rattle.gossa_base.specs.Words.{word_of}
@@ -13,12 +14,14 @@ use Rattle.ssa_ir.specs.Evaluation.{eval}
 use Rattle.ssa_ir.specs.Inputs.{Inputs, Answer, symbol_word}
 use Rattle.ssa_ir.specs.Edges.{same_block}
 use Rattle.ssa_ir.specs.declared.role.Role.{Role}
-use Rattle.ssa_ir.specs.declared.role.Role.TheVariants.{Computes, TakesParameter, TakesAddress, Loads, Stores, ChecksNil, Calls, Rests, NotBuilt}
+use Rattle.ssa_ir.specs.declared.role.Role.TheVariants.{Computes, TakesParameter, TakesAddress, Loads, Stores}
+use Rattle.ssa_ir.specs.declared.role.Role.TheVariants.{ChecksNil, Calls, Rests, NotBuilt}
 use Rattle.ssa_ir.specs.Roles.{role}
 use Rattle.ssa_ir.specs.Run.{Callees, put, is_set}
 use Rattle.ssa_ir.specs.Showing.{ends, words_at}
 use Rattle.listing.specs.declared.line.Line.{Line}
-use Rattle.listing.specs.declared.line.Line.TheVariants.{Label, Op as Compute, Move, Nil, Branch, BitBranch, Jump, Call, Ret, Exit}
+use Rattle.listing.specs.declared.line.Line.TheVariants.{Label, Op as Compute, Move, Nil, Branch, BitBranch, Jump, Call}
+use Rattle.listing.specs.declared.line.Line.TheVariants.{Ret, Exit}
 use Rattle.listing.specs.declared.line.Operands.{Operands}
 use Rattle.listing.specs.declared.line.Place.{Place}
 use Rattle.listing.specs.declared.line.Place.TheVariants.{Reg, Out, Arg, Frame, Home, Const, Addr}
@@ -26,8 +29,8 @@ use Rattle.listing.specs.declared.code.Code.{Code}
 use Rattle.listing.specs.declared.code.Map.{Map}
 
 -- what the machine has at one moment: the words of the registers, the flags, the memory and that from which changes are
--- counted, the frame words, the outgoing words, the argument words, the homes of values that have no frame word yet, and
--- the answers that are left
+-- counted, the frame words, the outgoing words, the argument words, the homes of values that have no frame word yet,
+-- and the answers that are left
 pub record Machine : Type 0 where
   pub registers : ℕ → ℕ
   pub flags : ℕ
@@ -81,8 +84,8 @@ with_result m (Some r) w = with_place (Reg r) w m
 abbrev pub with_computed : Op → ℤ → Operands → Machine → Machine
 with_computed op aux o m = with_result m o.dst (eval op aux (register_word m o.a) (register_word m o.b) 0 m.flags)
 
--- a computing line whose op has this role, and then the rest of the run; an op that isn't built ends it stuck, and no load
--- or store of the machine is built. An address is a move, and a nil check and a call have lines of their own
+-- a computing line whose op has this role, and then the rest of the run; an op that isn't built ends it stuck, and no
+-- load or store of the machine is built. An address is a move, and a nil check and a call have lines of their own
 abbrev pub run_computing : Role → Op → ℤ → Operands → (go : Machine → Shown) → Machine → Shown
 run_computing Computes op aux o go m = go (with_computed op aux o m)
 run_computing TakesParameter op aux o go m = go m
@@ -125,18 +128,21 @@ at_place go m (Some i) = go i m
 abbrev pub jumps : Code → Onward → BlockId → Machine → Shown
 jumps code go b m = at_place go m (label_from 0 b code.lines)
 
--- what the line at place i does, and then the rest of the run: `go` takes it on at a line, and `turn` behind the label of
--- a counted block. The maps are those of the calls, where the code has them, and the callees' signatures tell where their
--- arguments stand. No branch on flags and no call is built yet
+-- what the line at place i does, and then the rest of the run: `go` takes it on at a line, and `turn` behind the label
+-- of a counted block. The maps are those of the calls, where the code has them, and the callees' signatures tell where
+-- their arguments stand. No branch on flags and no call is built yet
 abbrev pub run_line : Callees → Inputs → Code → Option (List Map) → (turn go : Onward) → Line → ℕ → Machine → Shown
 run_line callees inputs code maps turn go (Label b held) i m = if b.split then go (suc i) m else turn (suc i) m
 run_line callees inputs code maps turn go (Compute op aux o note) i m = run_computing (role op) op aux o (go (suc i)) m
-run_line callees inputs code maps turn go (Move to from note) i m = go (suc i) (with_place to (word_at inputs code from m) m)
+run_line callees inputs code maps turn go (Move to from note) i m =
+    go (suc i) (with_place to (word_at inputs code from m) m)
 run_line callees inputs code maps turn go (Nil r note) i m =
     if m.registers r == 0 then ends (Trapped (changed m.since m.memory)) else go (suc i) m
 run_line callees inputs code maps turn go (Branch c b) i m = ends Stuck
-run_line callees inputs code maps turn go (BitBranch true r b) i m = if is_set (m.registers r) then jumps code go b m else go (suc i) m
-run_line callees inputs code maps turn go (BitBranch false r b) i m = if is_set (m.registers r) then go (suc i) m else jumps code go b m
+run_line callees inputs code maps turn go (BitBranch true r b) i m =
+    if is_set (m.registers r) then jumps code go b m else go (suc i) m
+run_line callees inputs code maps turn go (BitBranch false r b) i m =
+    if is_set (m.registers r) then go (suc i) m else jumps code go b m
 run_line callees inputs code maps turn go (Jump b) i m = jumps code go b m
 run_line callees inputs code maps turn go (Call s map note) i m = ends Stuck
 run_line callees inputs code maps turn go Ret i m = ends (Returned (results inputs code m) (changed m.since m.memory))

@@ -17,11 +17,12 @@ callees_of u name = sig_of u name
 abbrev pub ShowsAs : Callees → Func → Listing → Type 0
 ShowsAs callees f l = (n : ℕ) (inputs : Inputs) → run_listing callees inputs l n ≡ run (generic callees) inputs f n
 
--- the listings have exactly the signatures and the functions of the unit, in order, and one number of registers; and each
--- shows what its function shows
+-- the listings have exactly the signatures and the functions of the unit, in order, and one number of registers; and
+-- each shows what its function shows
 pub record SameShow (u : SsaUnit) (l : Listings) : Type 0 where
   pub regs : ℕ
   pub signatures : l.sigs ≡ u.sigs
   pub functions : map (λ g. g.code.sig) l.funcs ≡ map (λ f. f.sig) u.funcs
   pub one_machine : map (λ g. g.code.regs) l.funcs ≡ map (λ f. regs) u.funcs
-  pub shows : (i : ℕ) (f : Func) (g : Listing) → slice_get u.funcs i ≡ Some f → slice_get l.funcs i ≡ Some g → ShowsAs (callees_of u) f g
+  pub shows : (i : ℕ) (f : Func) (g : Listing) → slice_get u.funcs i ≡ Some f → slice_get l.funcs i ≡ Some g
+      → ShowsAs (callees_of u) f g

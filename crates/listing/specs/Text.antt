@@ -1,5 +1,6 @@
 -- The canonical text of listings.
-use Rattle.std.specs.Prelude.{ℕ, ℤ, ◌+◌, ◌*◌, Bool, true, false, if◌then◌else◌, List, [], ◌∷◌, ◌++◌, codes, decimal, Option, None, Some, slice_index_or}
+use Rattle.std.specs.Prelude.{ℕ, ℤ, ◌+◌, ◌*◌, Bool, true, false, if◌then◌else◌, List, [], ◌∷◌, ◌++◌, codes, decimal}
+use Rattle.std.specs.Prelude.{Option, None, Some, slice_index_or}
 use Rattle.std.specs.Fmt.{signed_decimal}
 use Rattle.std.specs.List.{flat_map}
 use Rattle.gossa_base.specs.declared.ids.BlockId.{BlockId}
@@ -11,7 +12,8 @@ use Rattle.ssa_ir.specs.declared.op.CondCode.{CondCode}
 use Rattle.ssa_ir.specs.declared.op.CondCode.TheVariants.{EQ, NE, LT, LE, GT, GE, LO, LS, HI, HS}
 use Rattle.ssa_ir.specs.Texts.{newline, sig_text, sig_line}
 use Rattle.listing.specs.declared.line.Line.{Line}
-use Rattle.listing.specs.declared.line.Line.TheVariants.{Label, Op as Compute, Move, Nil, Branch, BitBranch, Jump, Call, Ret, Exit}
+use Rattle.listing.specs.declared.line.Line.TheVariants.{Label, Op as Compute, Move, Nil, Branch, BitBranch, Jump, Call}
+use Rattle.listing.specs.declared.line.Line.TheVariants.{Ret, Exit}
 use Rattle.listing.specs.declared.line.Note.{Note}
 use Rattle.listing.specs.declared.line.Note.TheVariants.{Bare, Value, Spill, Load, Edge, Args, Results}
 use Rattle.listing.specs.declared.line.Operands.{Operands}
@@ -169,7 +171,8 @@ frame_text l =
 
 -- a function's first line
 abbrev pub head_text : Listing → List ℕ
-head_text l = codes "TEXT " ++ (sig_text l.code.sig ++ (frame_text l ++ (field_text (codes ", regs=") l.code.regs ++ newline)))
+head_text l =
+    codes "TEXT " ++ (sig_text l.code.sig ++ (frame_text l ++ (field_text (codes ", regs=") l.code.regs ++ newline)))
 
 -- a line of this code, with its end
 abbrev pub whole_line : Code → Line → List ℕ

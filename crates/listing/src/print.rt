@@ -6,7 +6,8 @@ ghost use Rattle.std.specs.Prelude.{◌≡◌, ◌++◌, OnOk, IfOk, OnErr};
 ghost use Rattle.gossa_base.specs.Prefixes.{AddsPrefix};
 ghost use Rattle.std.specs.List.{flat_map};
 ghost use Rattle.listing.specs.Frame.{frame_size, has_call};
-ghost use Rattle.listing.specs.Text.{whole_line, bits_text, bit_text, map_line, maps_text, field_text, frame_text, head_text, lines_text, listing_text, listings_text};
+ghost use Rattle.listing.specs.Text.{whole_line, bits_text, bit_text, map_line, maps_text, field_text, frame_text};
+ghost use Rattle.listing.specs.Text.{head_text, lines_text, listing_text, listings_text};
 
 use crate::code::{Code, Listing, Listings, Map};
 use crate::line::Line;

@@ -5,7 +5,9 @@
 ghost use Rattle.std.specs.Prelude.{◌≡◌, ◌++◌, codes, OnOk, OnErr};
 ghost use Rattle.gossa_base.specs.Prefixes.{AddsPrefix};
 ghost use Rattle.gossa_base.specs.Texts.{led};
-ghost use Rattle.listing.specs.Text.{three_regs, op_text, held_text, bit_test_text, label_text, computing_text, move_text, nil_check_text, branch_text, bit_branch_text, jump_text, call_text, line_text};
+ghost use Rattle.listing.specs.Text.{three_regs, op_text, held_text, bit_test_text, label_text, computing_text};
+ghost use Rattle.listing.specs.Text.{move_text, nil_check_text, branch_text, bit_branch_text, jump_text, call_text};
+ghost use Rattle.listing.specs.Text.{line_text};
 
 use crate::code::Code;
 use crate::line::{Line, Note, Operands, Place};

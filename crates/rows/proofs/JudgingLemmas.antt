@@ -10,7 +10,8 @@ none_more [] = refl
 none_more (x ∷ one) = refl
 
 -- no byte more that both have
-pub ended : (one other : List ℕ) (i : ℕ) → min (length one) (length other) ≤ i → first_line (drop i one) (drop i other) ≡ 1
+pub ended : (one other : List ℕ) (i : ℕ) → min (length one) (length other) ≤ i
+    → first_line (drop i one) (drop i other) ≡ 1
 ended one other i h = go (cases_lt i (length one))
   where
     go : (i < length one) ⊎ (length one ≤ i) → first_line (drop i one) (drop i other) ≡ 1

@@ -8,8 +8,8 @@ use crate::judging::{Came, Difference, Wanted};
 use gossa_base::{Bytes, NoMemory, put, put_number};
 use memchr::memchr;
 
-/// Appends what is told of a row that doesn't hold: the file, the row's name and the first part that differs, and then two
-/// lines, what is wanted and what came.
+/// Appends what is told of a row that doesn't hold: the file, the row's name and the first part that differs, and then
+/// two lines, what is wanted and what came.
 pub fn put_difference(
     out: &mut Vec<u8>,
     file: &[u8],

@@ -59,8 +59,8 @@ struct Tally {
     verdict: Verdict,
 }
 
-/// Judges the rows of these files. How many of them hold is written to `sink`, and what is told of each other row, and of
-/// each file that is no archive, to `errs`. All files are judged, whatever the others came to.
+/// Judges the rows of these files. How many of them hold is written to `sink`, and what is told of each other row, and
+/// of each file that is no archive, to `errs`. All files are judged, whatever the others came to.
 pub fn judge_archives<K: Sink, E: Sink>(
     alloc: Global,
     files: &[ArchiveFile],

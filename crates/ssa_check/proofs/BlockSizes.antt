@@ -1,17 +1,19 @@
 -- How many values a block may have: no two of a function have one number, and numbers have a greatest.
-use Rattle.std.proofs.Common.{◌≡◌, ℕ, zero, suc, ◌+◌, ◌^◌, ◌<◌, ◌≤◌, ◌⊎◌, inl, inr, true, eqb, List, [], ◌∷◌, length, map, flat_map, ap, arith}
+use Rattle.std.proofs.Common.{◌≡◌, ℕ, zero, suc, ◌+◌, ◌^◌, ◌<◌, ◌≤◌, ◌⊎◌, inl, inr, true, eqb, List, [], ◌∷◌, length}
+use Rattle.std.proofs.Common.{map, flat_map, ap, arith}
 use Rattle.std.specs.List.{All, list_any}
 use Rattle.std.proofs.lemmas.Bool.{eqb-true, ne_eqb, or_cases}
 use Rattle.std.proofs.lemmas.List.{length-append, length-map}
 use Rattle.std.proofs.lemmas.List.Elements.{All-head, All-tail}
 use Rattle.std.proofs.lemmas.Map.Keys.{IsDistinct-from_apart}
 use Rattle.std.proofs.lemmas.Map.Steps.{length-le_from_distinct_below}
+use Rattle.ssa_ir.specs.declared.limits.TheConstants.{MAX_NUMBER}
 use Rattle.ssa_ir.specs.declared.func.Block.{Block}
 use Rattle.ssa_ir.specs.declared.func.Func.{Func}
 use Rattle.ssa_ir.specs.declared.func.Value.{Value}
 use Rattle.ssa_ir.specs.Lookups.{values_of}
 use Rattle.ssa_ir.specs.WellFormed.{Differ, IsNumber, WellFormedFunc}
-use Rattle.ssa_check.proofs.ItemLists.{At}
+use Rattle.gossa_base.proofs.ListPlaces.{At}
 
 abbrev numbers : List Value → List ℕ
 numbers values = map (λ (v : Value). v.id.0) values
@@ -23,7 +25,7 @@ below (v ∷ values) all q h =
     from_cases (below values (All-tail (λ (w : Value). IsNumber w.id.0) v values all) q)
     (or_cases (eqb q v.id.0) (list_any (eqb q) (numbers values)) h)
   where
-    here : v.id.0 ≤ 1000000
+    here : v.id.0 ≤ MAX_NUMBER
     here = (All-head (λ (w : Value). IsNumber w.id.0) v values all).greatest
 
     from_cases : (list_any (eqb q) (numbers values) ≡ true → q < 1000001)

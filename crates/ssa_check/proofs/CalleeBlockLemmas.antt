@@ -1,10 +1,15 @@
 -- The block in which a value stands, by its place: no two blocks have one value, and no two one number.
-use Rattle.std.proofs.Common.{◌≡◌, ℕ, zero, suc, ◌+◌, ◌<◌, ◌⊎◌, inl, inr, Bool, true, false, ◌&&◌, ◌||◌, ◌==◌, List, [], ◌∷◌, ◌++◌, length, get_or, map, flat_map, slice_get, Contains, Bor, Option, None, Some, MatchOption, option_copied, refl, sym, ap, subst, ◌∙◌, true≢false, zero-add, if◌then◌else◌, arith}
+use Rattle.std.proofs.Common.{◌≡◌, ℕ, zero, suc, ◌+◌, ◌<◌, ◌⊎◌, inl, inr, Bool, true, false, ◌&&◌, ◌||◌, ◌==◌, List, []}
+use Rattle.std.proofs.Common.{◌∷◌, ◌++◌, length, get_or, map, flat_map, slice_get, Contains, Bor, Option, None, Some}
+use Rattle.std.proofs.Common.{MatchOption, option_copied, refl, sym, ap, subst, ◌∙◌, true≢false, zero-add}
+use Rattle.std.proofs.Common.{if◌then◌else◌, arith}
 use Rattle.std.specs.Bool.{beq}
 use Rattle.std.specs.Option.{option_or}
 use Rattle.std.specs.Slice.{IsItemAt}
-use Rattle.std.proofs.lemmas.Bool.{and_from, and_parts, cases_order, eqb-true, eq-eqb, false_from_ne_true, or_left, or_right}
-use Rattle.std.proofs.lemmas.List.{length-append, length-map, map-append, get_or_append_left, get_or-append-add, get_or-map}
+use Rattle.std.proofs.lemmas.Bool.{and_from, and_parts, cases_order, eqb-true, eq-eqb, false_from_ne_true, or_left}
+use Rattle.std.proofs.lemmas.Bool.{or_right}
+use Rattle.std.proofs.lemmas.List.{length-append, length-map, map-append, get_or_append_left, get_or-append-add}
+use Rattle.std.proofs.lemmas.List.{get_or-map}
 use Rattle.std.proofs.lemmas.List.Folds.{Any-from_list_any, list_any-append}
 use Rattle.std.proofs.lemmas.Option.{get_or_from_slice_get, none-some, slice_get-get_or}
 use Rattle.gossa_base.specs.declared.ids.ValueId.{ValueId}
@@ -14,9 +19,9 @@ use Rattle.ssa_ir.specs.declared.func.Value.{Value}
 use Rattle.ssa_ir.specs.Edges.{same_block}
 use Rattle.ssa_ir.specs.FirstOrder.{has_value, same_value}
 use Rattle.ssa_ir.specs.WellFormed.{Differ, WellFormedFunc}
-use Rattle.ssa_check.specs.declared.values.Place.{Place}
-use Rattle.ssa_check.specs.Tables.{places_in, places_from, places_of, place_in}
-use Rattle.ssa_check.proofs.ValueTableLemmas.{item_copied}
+use Rattle.ssa_tables.specs.declared.values.Place.{Place}
+use Rattle.ssa_tables.specs.Places.{places_in, places_from, places_of, place_in}
+use Rattle.gossa_base.proofs.ListPlaces.{item_copied}
 
 -- ---- a value stands in one block
 

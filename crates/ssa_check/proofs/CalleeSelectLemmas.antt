@@ -1,5 +1,7 @@
 -- What is noted of selects, one after the other, answers what the check of calls asks.
-use Rattle.std.proofs.Common.{◌≡◌, ℕ, ◌+◌, ◌<◌, length, get_or, take, ℤ, Bool, true, false, cond, ◌&&◌, ◌||◌, nat_lt, List, [], ◌∷◌, ◌++◌, map, fold, Option, None, Some, MatchOption, refl, sym, ap, subst, ◌∙◌, append_assoc, if◌then◌else◌, arith, int_eq}
+use Rattle.std.proofs.Common.{◌≡◌, ℕ, ◌+◌, ◌<◌, length, get_or, take, ℤ, Bool, true, false, cond, ◌&&◌, ◌||◌, nat_lt}
+use Rattle.std.proofs.Common.{List, [], ◌∷◌, ◌++◌, map, fold, Option, None, Some, MatchOption, refl, sym, ap, subst}
+use Rattle.std.proofs.Common.{◌∙◌, append_assoc, if◌then◌else◌, arith, int_eq}
 use Rattle.std.specs.List.{list_any}
 use Rattle.std.specs.Cmp.{nat_eq_equiv, signed_Decides}
 use Rattle.std.specs.Map.{lookup}
@@ -10,13 +12,16 @@ use Rattle.std.proofs.lemmas.List.Folds.{list_any-append}
 use Rattle.gossa_base.specs.declared.ids.ValueId.{ValueId}
 use Rattle.ssa_ir.specs.declared.func.Func.{Func}
 use Rattle.ssa_ir.specs.declared.func.Value.{Value}
-use Rattle.ssa_ir.specs.FirstOrder.{is_follower, same_value, selects}
+use Rattle.ssa_ir.specs.FirstOrder.{same_value, selects}
+use Rattle.ssa_ir.specs.OpKinds.{is_follower}
 use Rattle.ssa_ir.specs.Lookups.{values_of}
 use Rattle.ssa_check.specs.declared.callees.SelectKey.{SelectKey}
 use Rattle.ssa_check.specs.declared.callees.SelectTable.{SelectTable}
-use Rattle.ssa_check.specs.CalleeCheck.{has_lower_twin, has_memory_select, is_memory}
-use Rattle.ssa_check.specs.Selects.{picks_by, picks_of, is_index_of, is_below, is_key, says_memory, says_lowest, TellsOf}
-use Rattle.ssa_check.specs.Tables.{lower_where}
+use Rattle.ssa_check.specs.CalleeCheck.{has_lower_twin, has_memory_select}
+use Rattle.ssa_ir.specs.Classes.{is_memory}
+use Rattle.ssa_check.specs.Selects.{picks_by, picks_of, is_index_of, is_below, is_key, says_memory, says_lowest}
+use Rattle.ssa_check.specs.Selects.{TellsOf}
+use Rattle.ssa_check.specs.Lowest.{lower_where}
 use Rattle.ssa_check.specs.ValueChecks.{is_lower}
 
 -- ---- tests

@@ -1,9 +1,12 @@
--- Chains: no definer stands twice in one, and the last alone is taken by no inner definer; so all chains of a block end alike.
-use Rattle.std.proofs.Common.{◌≡◌, ◌≢◌, ℕ, zero, suc, ◌+◌, ◌<◌, ◌≤◌, ◌⊎◌, inl, inr, true, false, List, [], ◌∷◌, ◌++◌, length, get_or, map, None, Some, slice_get, refl, subst, sym, ap, ◌∙◌, arith}
+-- Chains: no definer stands twice in one, and the last alone is taken by no inner definer; so all chains of a block end
+-- alike.
+use Rattle.std.proofs.Common.{◌≡◌, ◌≢◌, ℕ, zero, suc, ◌+◌, ◌<◌, ◌≤◌, ◌⊎◌, inl, inr, true, false, List, [], ◌∷◌, ◌++◌}
+use Rattle.std.proofs.Common.{length, get_or, map, None, Some, slice_get, refl, subst, sym, ap, ◌∙◌, arith}
 use Rattle.std.specs.List.{All, AllPairs, Contains, flat_map, last_or}
 use Rattle.std.specs.Option.{option_map}
 use Rattle.std.proofs.lemmas.Bool.{both_ways, cases_lt, cases_order}
-use Rattle.std.proofs.lemmas.List.{get_or-append-add, get_or-map, get_or_append_left, length-append, length-map, map-append}
+use Rattle.std.proofs.lemmas.List.{get_or-append-add, get_or-map, get_or_append_left, length-append, length-map}
+use Rattle.std.proofs.lemmas.List.{map-append}
 use Rattle.std.proofs.lemmas.List.Kept.{AllPairs-filter}
 use Rattle.std.proofs.lemmas.Option.{get_or_from_slice_get, slice_get_within}
 use Rattle.gossa_base.specs.declared.ids.ValueId.{ValueId}
@@ -13,8 +16,9 @@ use Rattle.ssa_ir.specs.declared.func.Value.{Value}
 use Rattle.ssa_ir.specs.WellFormed.{Differ, WellFormedFunc}
 use Rattle.ssa_check.specs.declared.memories.Leaves.TheVariants.{Known}
 use Rattle.ssa_check.specs.ChainTables.{LeavesOf}
-use Rattle.ssa_check.specs.MemoryChains.{AreLinked, Chained, IsChain, IsLast, inner_of, is_inner, last_definer, taken_by, takes, takes_inner}
-use Rattle.ssa_check.proofs.ItemLists.{At, all_at, any_at, contains_at, same_at}
+use Rattle.ssa_ir.specs.MemoryChains.{AreLinked, Chained, IsChain, IsLast, inner_of, is_inner, last_definer, taken_by}
+use Rattle.ssa_ir.specs.MemoryChains.{takes, takes_inner}
+use Rattle.gossa_base.proofs.ListPlaces.{last_at, At, all_at, any_at, contains_at, same_at}
 use Rattle.ssa_check.proofs.ItemStands.{memories_same, same_memories}
 
 -- ---- the numbers of a block's values differ
@@ -76,7 +80,8 @@ same_index values apart i j v w at_i at_j same = by_order (cases_order i j)
     by_order (inr (inl before)) =
         absurd (apart i j v before (slice_get_within values j w at_j) (number i v at_i ∙ same ∙ sym (number j w at_j)))
     by_order (inr (inr behind)) =
-        absurd (apart j i v behind (slice_get_within values i v at_i) (number j w at_j ∙ sym same ∙ sym (number i v at_i)))
+        absurd (apart j i v behind (slice_get_within values i v at_i)
+        (number j w at_j ∙ sym same ∙ sym (number i v at_i)))
 
 -- values of one number are one
 pub one_number : (values : List Value) → Apart values → (v w : Value) → Contains values v → Contains values w
@@ -131,10 +136,6 @@ linked_step f d (e ∷ rest) linked (suc i) x at = later (linked_step f e rest l
         → (y : Value) × At (d ∷ e ∷ rest) (suc i) y × (takes f x y.id ≡ true)
     later (y, there, t) = (y, there, t)
 
-pub last_at : {X : Type 0} (d : X) (rest : List X) → last_or (Some d) rest ≡ slice_get (d ∷ rest) (length rest)
-last_at d [] = refl
-last_at d (e ∷ rest) = last_at e rest
-
 pub some_last : {X : Type 0} (d : X) (rest : List X) → (x : X) × (slice_get (d ∷ rest) (length rest) ≡ Some x)
 some_last d [] = (d, refl)
 some_last d (e ∷ rest) = some_last e rest
@@ -150,7 +151,8 @@ module _ (f : Func) (b : Block) (apart : Apart (inner_of b)) where
     not_first : (x y : Value) → At (d ∷ rest) zero x → Contains (inner_of b) y → takes f x y.id ≡ true → ⊥
     not_first x y at inner t =
         let one : d ≡ x = cc in
-        both_ways (takes_inner f b x) (subst (λ v. takes_inner f b v ≡ false) one chain.0) (takes_some_inner f b x y inner t)
+        both_ways (takes_inner f b x) (subst (λ v. takes_inner f b v ≡ false) one chain.0)
+        (takes_some_inner f b x y inner t)
 
     -- none stands twice
     pub no_repeat : (i j : ℕ) (x y : Value) → At (d ∷ rest) i x → At (d ∷ rest) j y → x.id.0 ≡ y.id.0 → i < j → ⊥
@@ -232,7 +234,8 @@ module _ (f : Func) (b : Block) (apart : Apart (inner_of b)) where
   no_inner d rest none some =
       let place : (k : ℕ) × At (inner_of b) k d
       = contains_at (inner_of b) d (all_at (Contains (inner_of b)) (d ∷ rest) zero d some.within refl) in
-      let there : (k : ℕ) × At [] k d = contains_at [] d (all_at (Contains []) (inner_of b) place.0 d none.whole place.1) in
+      let there : (k : ℕ) × At [] k d =
+      contains_at [] d (all_at (Contains []) (inner_of b) place.0 d none.whole place.1) in
       let never : None ≡ Some d = there.1 in
       cc
 
@@ -240,7 +243,8 @@ module _ (f : Func) (b : Block) (apart : Apart (inner_of b)) where
       → last_or (Some d) rest ≡ last_or (Some e) more
   same_end d rest e more one other =
       let x : (v : Value) × At (d ∷ rest) (length rest) v = some_last d rest in
-      let inner : Contains (inner_of b) x.0 = all_at (Contains (inner_of b)) (d ∷ rest) (length rest) x.0 one.within x.1 in
+      let inner : Contains (inner_of b) x.0 =
+      all_at (Contains (inner_of b)) (d ∷ rest) (length rest) x.0 one.within x.1 in
       let at : At (e ∷ more) (length more) x.0
       = free_last e more other.within other.in_order other.whole x.0 inner
       (λ y inner_y t. last_free d rest one.within one.in_order one.whole x.0 y x.1 inner_y t) in

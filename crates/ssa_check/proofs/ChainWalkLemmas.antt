@@ -1,5 +1,7 @@
 -- The walk back along inner definers: where it ends after all of them they are a chain, and along a chain it does.
-use Rattle.std.proofs.Common.{◌≡◌, ◌≢◌, ℕ, zero, suc, ◌+◌, ◌-◌, ◌==◌, ◌<◌, ◌≤◌, ◌⊎◌, inl, inr, nat_eq, eqb, Bool, true, false, not, ◌||◌, if◌then◌else◌, List, [], ◌∷◌, ◌++◌, length, filter, get_or, map, find, Option, None, Some, is_some, refl, subst, sym, ap, ◌∙◌, arith, append_assoc}
+use Rattle.std.proofs.Common.{◌≡◌, ◌≢◌, ℕ, zero, suc, ◌+◌, ◌-◌, ◌==◌, ◌<◌, ◌≤◌, ◌⊎◌, inl, inr, nat_eq, eqb, Bool, true}
+use Rattle.std.proofs.Common.{false, not, ◌||◌, if◌then◌else◌, List, [], ◌∷◌, ◌++◌, length, filter, get_or, map, find}
+use Rattle.std.proofs.Common.{Option, None, Some, is_some, refl, subst, sym, ap, ◌∙◌, arith, append_assoc}
 use Rattle.std.specs.List.{All, Contains, IsDistinct, last_or, list_any}
 use Rattle.std.specs.Cmp.{nat_eq_equiv}
 use Rattle.std.specs.Map.{lookup}
@@ -20,11 +22,14 @@ use Rattle.ssa_ir.specs.FirstOrder.{same_memory, same_value}
 use Rattle.ssa_ir.specs.WellFormed.{WellFormedFunc}
 use Rattle.ssa_check.specs.declared.chains.Link.{Link}
 use Rattle.ssa_check.specs.declared.memories.Leaves.TheVariants.{Unknown}
-use Rattle.ssa_check.specs.ChainLinks.{chain_end, end_where, ends_after, free_of, if_there, is_taken, leaves_by, link_before, links_of, step_back, taken_pairs}
+use Rattle.ssa_check.specs.ChainLinks.{chain_end, end_where, ends_after, free_of, if_there, is_taken, leaves_by}
+use Rattle.ssa_check.specs.ChainLinks.{link_before, links_of, step_back, taken_pairs}
 use Rattle.ssa_check.specs.ChainTables.{LeavesOf}
-use Rattle.ssa_check.specs.MemoryChains.{AreLinked, Chained, IsChain, begins_memory, has_definer, inner_of, is_definer, is_inner, is_memory_phi, last_definer, taken_by, takes, takes_inner}
-use Rattle.ssa_check.proofs.ChainLemmas.{Apart, Lists, free_last, inner_apart, last_free, linked_step, lists, no_repeat, one_number, some_last, takes_one}
-use Rattle.ssa_check.proofs.ItemLists.{At, Found, all_at, any_at, at_contains, contains_at, find_any}
+use Rattle.ssa_ir.specs.MemoryChains.{AreLinked, Chained, IsChain, begins_memory, has_definer, inner_of, is_definer}
+use Rattle.ssa_ir.specs.MemoryChains.{is_inner, is_memory_phi, last_definer, taken_by, takes, takes_inner}
+use Rattle.ssa_check.proofs.ChainLemmas.{Apart, Lists, free_last, inner_apart, last_free, linked_step, lists, no_repeat}
+use Rattle.ssa_check.proofs.ChainLemmas.{one_number, some_last, takes_one}
+use Rattle.gossa_base.proofs.ListPlaces.{At, Found, all_at, any_at, at_contains, contains_at, find_any}
 
 -- ---- the first that passes
 
@@ -79,7 +84,8 @@ number_at values k v at =
     ∙ ap (λ (x : Value). x.id.0) (get_or_from_slice_get values k v v at)
 
 -- values of which no two have one number
-distinct : (values : List Value) → ((i j : ℕ) (v w : Value) → At values i v → At values j w → v.id.0 ≡ w.id.0 → i < j → ⊥)
+distinct : (values : List Value)
+    → ((i j : ℕ) (v w : Value) → At values i v → At values j w → v.id.0 ≡ w.id.0 → i < j → ⊥)
     → IsDistinct eqb (numbers values)
 distinct values differ = IsDistinct-from_apart eqb (numbers values) apart
   where
@@ -88,7 +94,8 @@ distinct values differ = IsDistinct-from_apart eqb (numbers values) apart
     some_at (x ∷ xs) zero lt = (x, refl)
     some_at (x ∷ xs) (suc k) lt = some_at xs k (omega (arith, lt))
 
-    value_at : (k d : ℕ) → k < length (numbers values) → (v : Value) × At values k v × (get_or (numbers values) k d ≡ v.id.0)
+    value_at : (k d : ℕ) → k < length (numbers values)
+        → (v : Value) × At values k v × (get_or (numbers values) k d ≡ v.id.0)
     value_at k d lt =
         let inside : k < length values = omega (arith, lt, length-map values (λ (v : Value). v.id.0)) in
         let v : (x : Value) × At values k x = some_at values k inside in (
@@ -186,7 +193,8 @@ one_of xs ys apart differ all as_many y here = by_test (list_any (eqb y.id.0) (n
 all_there : (xs ys : List Value) → Apart ys → IsDistinct eqb (numbers xs) → All (Contains ys) xs
     → length xs ≡ length ys → All (Contains xs) ys
 all_there xs ys apart differ all as_many k d lt =
-    one_of xs ys apart differ all as_many (get_or ys k d) (at_contains ys k (get_or ys k d) (slice_get-get_or ys k d lt))
+    one_of xs ys apart differ all as_many (get_or ys k d)
+    (at_contains ys k (get_or ys k d) (slice_get-get_or ys k d lt))
 
 -- ---- the links of a block
 
@@ -252,7 +260,8 @@ all_in f (d ∷ ds) done apart =
         let place : (k : ℕ) × At done k v = contains_at done v there in
         let inside : place.0 < length done = slice_get_within done place.0 v place.1 in
         apart place.0 (length done) v inside (slice_get_within (done ++ d ∷ ds) (length done) d (at_mid done))
-        (ap (λ (x : Value). x.id.0) (get_or_from_slice_get (done ++ d ∷ ds) place.0 v v (at_front done place.0 v place.1))
+        (ap (λ (x : Value). x.id.0)
+        (get_or_from_slice_get (done ++ d ∷ ds) place.0 v v (at_front done place.0 v place.1))
         ∙ sym same
         ∙ sym (ap (λ (x : Value). x.id.0) (get_or_from_slice_get (done ++ d ∷ ds) (length done) d v (at_mid done))))
 
@@ -278,7 +287,8 @@ module _ (f : Func) (ds : List Value) (apart : Apart ds) where
               ap (λ (v : Value). Some (taken_by f v)) one
           by_test false same again (zero, at) =
               let one : x ≡ d = cc in
-              absurd (both_ways (nat_eq d.id.0 x.id.0) same (eq-eqb d.id.0 x.id.0 (ap (λ (v : Value). v.id.0) (sym one))))
+              absurd (both_ways (nat_eq d.id.0 x.id.0) same
+              (eq-eqb d.id.0 x.id.0 (ap (λ (v : Value). v.id.0) (sym one))))
           by_test false same again (suc k, at) = again (k, at)
 
   abbrev taken_of : Value → Option Value
@@ -366,7 +376,8 @@ module _ (f : Func) (b : Block) (apart : Apart (inner_of b)) where
 
       go : (o : Option Value) → taken_of f (inner_of b) apart d ≡ o
           → step_back (option_map (λ (v : Value). v.id) o) (ends_after table n) ≡ true
-          → ((e : Value) → Contains (inner_of b) e → takes f d e.id ≡ true → ends_after table n e.id ≡ true → Longer n e (d ∷ rest))
+          → ((e : Value) → Contains (inner_of b) e → takes f d e.id ≡ true → ends_after table n e.id ≡ true
+          → Longer n e (d ∷ rest))
           → Longer (suc n) d rest
       go None is goes again = cc
       go (Some e) is goes again =
@@ -412,9 +423,11 @@ module _ (f : Func) (b : Block) (apart : Apart (inner_of b)) where
             let found : Contains (inner_of b) e × (takes f x e.id ≡ true) =
             find_there (λ y. takes f x y.id) (inner_of b) e is in
             let place : (k : ℕ) × At (inner_of b) k e = contains_at (inner_of b) e found.0 in
-            absurd (both_ways (takes_inner f b x) none (any_at (λ y. takes f x y.id) (inner_of b) place.0 e place.1 found.1))
+            absurd (both_ways (takes_inner f b x) none
+            (any_at (λ y. takes f x y.id) (inner_of b) place.0 e place.1 found.1))
 
-    takes_this : (x z : Value) → Contains (inner_of b) z → takes f x z.id ≡ true → taken_of f (inner_of b) apart x ≡ Some z
+    takes_this : (x z : Value) → Contains (inner_of b) z → takes f x z.id ≡ true
+        → taken_of f (inner_of b) apart x ≡ Some z
     takes_this x z there t = by_found (taken_of f (inner_of b) apart x) refl
       where
         by_found : (o : Option Value) → taken_of f (inner_of b) apart x ≡ o → o ≡ Some z
@@ -434,7 +447,8 @@ module _ (f : Func) (b : Block) (apart : Apart (inner_of b)) where
         ap is_none (before_is f (inner_of b) apart x (inner zero x at)
         ∙ ap (option_map (λ (v : Value). v.id)) (takes_none x none))
     walk_along (suc i) x at =
-        let p : (z : Value) × At (d ∷ rest) i z × (takes f x z.id ≡ true) = linked_step f d rest all.in_order.1 i x at in
+        let p : (z : Value) × At (d ∷ rest) i z × (takes f x z.id ≡ true) =
+        linked_step f d rest all.in_order.1 i x at in
         ap (λ o. step_back o (ends_after table i))
         (before_is f (inner_of b) apart x (inner (suc i) x at)
         ∙ ap (option_map (λ (v : Value). v.id)) (takes_this x p.0 (inner i p.0 p.1) p.2))
@@ -445,7 +459,12 @@ module _ (f : Func) (b : Block) (apart : Apart (inner_of b)) where
         let differ : IsDistinct eqb (numbers (d ∷ rest)) =
         distinct (d ∷ rest) (no_repeat f b apart d rest all.within all.in_order) in
         let inner_differ : IsDistinct eqb (numbers (inner_of b)) = distinct (inner_of b) apart_at in
-        omega (arith, fewer (d ∷ rest) (inner_of b) differ all.within, fewer (inner_of b) (d ∷ rest) inner_differ all.whole)
+        omega (
+          arith,
+          fewer (d ∷ rest) (inner_of b) differ all.within,
+          fewer (inner_of b) (d ∷ rest) inner_differ
+              all.whole,
+        )
       where
         apart_at : (i j : ℕ) (v w : Value) → At (inner_of b) i v → At (inner_of b) j w → v.id.0 ≡ w.id.0 → i < j → ⊥
         apart_at i j v w at_i at_j same before =
@@ -465,13 +484,15 @@ module _ (f : Func) (b : Block) (apart : Apart (inner_of b)) where
       → (y : Value) × Contains (inner_of b) y × (takes f y x.id ≡ true)
   taken_by_some x h = from_found (find_any (λ e. takes f e x.id) (inner_of b) h)
     where
-      from_found : Found (λ e. takes f e x.id) (inner_of b) → (y : Value) × Contains (inner_of b) y × (takes f y x.id ≡ true)
+      from_found : Found (λ e. takes f e x.id) (inner_of b)
+          → (y : Value) × Contains (inner_of b) y × (takes f y x.id ≡ true)
       from_found (k, y, at, t) = (y, at_contains (inner_of b) k y at, t)
 
   not_taken : (x y : Value) → is_free x ≡ true → Contains (inner_of b) y → takes f y x.id ≡ true → ⊥
   not_taken x y is there t =
       let place : (k : ℕ) × At (inner_of b) k y = contains_at (inner_of b) y there in
-      both_ways (list_any (λ e. takes f e x.id) (inner_of b)) (not-true (list_any (λ e. takes f e x.id) (inner_of b)) is)
+      both_ways (list_any (λ e. takes f e x.id) (inner_of b))
+      (not-true (list_any (λ e. takes f e x.id) (inner_of b)) is)
       (any_at (λ e. takes f e x.id) (inner_of b) place.0 y place.1 t)
 
   -- the last of a chain is free
@@ -486,7 +507,8 @@ module _ (f : Func) (b : Block) (apart : Apart (inner_of b)) where
           let p : (y : Value) × Contains (inner_of b) y × (takes f y x.id ≡ true) = taken_by_some x is in
           last_free f b apart d rest all.within all.in_order all.whole x p.0 at p.1 p.2
       by_test x at false is =
-          let there : Contains (inner_of b) x = all_at (Contains (inner_of b)) (d ∷ rest) (length rest) x all.within at in
+          let there : Contains (inner_of b) x =
+          all_at (Contains (inner_of b)) (d ∷ rest) (length rest) x all.within at in
           let place : (k : ℕ) × At (inner_of b) k x = contains_at (inner_of b) x there in
           both_ways (list_any is_free (inner_of b)) (find_nowhere is_free (inner_of b) none)
           (any_at is_free (inner_of b) place.0 x place.1 (ap not is))
@@ -496,7 +518,8 @@ module _ (f : Func) (b : Block) (apart : Apart (inner_of b)) where
   abbrev end_by : Option Value → Option ValueId
   end_by o = end_where table (length (inner_of b) - 1) (option_map (λ (v : Value). v.id) o)
 
-  not_empty : (c : Chained f b) → 0 < length (inner_of b) → (d : Value) × (rest : List Value) × Lists f b apart (d ∷ rest)
+  not_empty : (c : Chained f b) → 0 < length (inner_of b)
+      → (d : Value) × (rest : List Value) × Lists f b apart (d ∷ rest)
   not_empty c some = by_chain c.chain (lists f b apart c)
     where
       by_chain : (chain : List Value) → Lists f b apart chain
@@ -575,7 +598,8 @@ module _ (f : Func) (b : Block) (apart : Apart (inner_of b)) where
 
       free_is : free_of links ≡ option_map (λ (v : Value). v.id) free
       free_is =
-          ap (option_map (λ (l : Link). l.id)) (find_map (λ (l : Link). not (is_taken l.id links)) (as_link f) (inner_of b))
+          ap (option_map (λ (l : Link). l.id))
+          (find_map (λ (l : Link). not (is_taken l.id links)) (as_link f) (inner_of b))
           ∙ names (find (λ (d : Value). not (is_taken d.id links)) (inner_of b))
           ∙ (λ i. option_map (λ (v : Value). v.id) (find (λ d. same_test d i) (inner_of b)))
 
@@ -605,12 +629,15 @@ leaves_first f b has phi none =
     no_inner = empty (inner_of b) (sym (ap length (links_are f b.values) ∙ length-map (inner_of b) (as_link f)) ∙ none)
 
     -- a definer that isn't an inner one begins memory
-    begins : (xs : List Value) → list_any is_definer xs ≡ true → filter is_inner xs ≡ [] → list_any begins_memory xs ≡ true
+    begins : (xs : List Value) → list_any is_definer xs ≡ true → filter is_inner xs ≡ []
+        → list_any begins_memory xs ≡ true
     begins [] any none = cc
     begins (x ∷ xs) any none = by_tests (begins_memory x) (is_inner x) (begins xs) any none
       where
-        by_tests : (t u : Bool) → (list_any is_definer xs ≡ true → filter is_inner xs ≡ [] → list_any begins_memory xs ≡ true)
-            → ((t || u) || list_any is_definer xs) ≡ true → (if u then x ∷ filter is_inner xs else filter is_inner xs) ≡ []
+        by_tests : (t u : Bool)
+            → (list_any is_definer xs ≡ true → filter is_inner xs ≡ [] → list_any begins_memory xs ≡ true)
+            → ((t || u) || list_any is_definer xs) ≡ true
+            → (if u then x ∷ filter is_inner xs else filter is_inner xs) ≡ []
             → (t || list_any begins_memory xs) ≡ true
         by_tests true u again h e = refl
         by_tests false true again h e = cc
@@ -628,7 +655,8 @@ leaves_first f b has phi none =
           one_phi = phi;
           chain = [];
           within = λ k d lt. absurd (omega (arith, lt));
-          whole = subst (λ (xs : List Value). All (Contains []) xs) (sym no_inner) (λ k d lt. absurd (omega (arith, lt)));
+          whole =
+              subst (λ (xs : List Value). All (Contains []) xs) (sym no_inner) (λ k d lt. absurd (omega (arith, lt)));
           in_order = tt;
         };
         last = ap (option_map (λ (w : Value). w.id)) is;
@@ -642,7 +670,8 @@ leaves_none f b has more = (has, λ c. omega (arith, more, c.one_phi))
 -- ---- one step of the walk
 
 pub one_step : (taken : List (ℕ × Option ValueId)) (steps done : ℕ) (id : ValueId) (o : Option ValueId) → done < steps
-    → o ≡ link_before taken id → ends_after taken (steps - done) id ≡ step_back o (ends_after taken (steps - (done + 1)))
+    → o ≡ link_before taken id → ends_after taken (steps - done) id
+    ≡ step_back o (ends_after taken (steps - (done + 1)))
 one_step taken steps done id o before is =
     let left : steps - done ≡ suc (steps - (done + 1)) = omega (arith, before) in
     ap (λ n. ends_after taken n id) left ∙ ap (λ p. step_back p (ends_after taken (steps - (done + 1)))) (sym is)

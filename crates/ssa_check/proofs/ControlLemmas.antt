@@ -1,5 +1,8 @@
--- The table of uses: what one more block adds to it, and that it says of a block's control whether something else uses it.
-use Rattle.std.proofs.Common.{◌≡◌, ◌≢◌, ℕ, zero, suc, ◌<◌, Bool, true, false, cond, eqb, nat_eq, not, ◌&&◌, ◌||◌, List, [], ◌∷◌, ◌++◌, length, get_or, flat_map, None, Some, Contains, refl, subst, sym, ap, ◌∙◌, arith}
+-- The table of uses: what one more block adds to it, and that it says of a block's control whether something else uses
+-- it.
+use Rattle.std.proofs.Common.{◌≡◌, ◌≢◌, ℕ, zero, suc, ◌<◌, Bool, true, false, cond, eqb, nat_eq, not, ◌&&◌, ◌||◌, List}
+use Rattle.std.proofs.Common.{[], ◌∷◌, ◌++◌, length, get_or, flat_map, None, Some, Contains, refl, subst, sym, ap, ◌∙◌}
+use Rattle.std.proofs.Common.{arith}
 use Rattle.std.specs.Bool.{beq}
 use Rattle.std.specs.List.{list_any}
 use Rattle.std.proofs.lemmas.Bool.{eqb-true, ne_eqb, eq-eqb, and_left, and_right, or_right}
@@ -44,7 +47,8 @@ or_false false = refl
 ends_with : (id : ValueId) (blocks : List Block) (b : Block)
     → list_any (is_control id) (blocks ++ b ∷ []) ≡ (list_any (is_control id) blocks || is_control id b)
 ends_with id blocks b =
-    list_any-append (is_control id) blocks (b ∷ []) ∙ ap (λ t. list_any (is_control id) blocks || t) (or_false (is_control id b))
+    list_any-append (is_control id) blocks (b ∷ [])
+    ∙ ap (λ t. list_any (is_control id) blocks || t) (or_false (is_control id b))
 
 taken_with : (id : ValueId) (blocks : List Block) (b : Block)
     → is_taken id (flat_map (λ (x : Block). x.values) (blocks ++ b ∷ []))
@@ -99,7 +103,8 @@ pub without_control : (blocks : List Block) (b : Block) (old new : UseTable) →
     → new.ends.keys ≡ old.ends.keys → TellsOf (blocks ++ b ∷ []) new
 without_control blocks b old new h none used ends =
     told blocks b old new h
-    (λ id. used id ∙ no_more (is_noted id old.used.keys || is_taken id b.values) (is_noted id old.ends.keys) (is_control id b) (no id))
+    (λ id. used id ∙ no_more (is_noted id old.used.keys || is_taken id b.values) (is_noted id old.ends.keys)
+    (is_control id b) (no id))
     (λ id. ap (λ ks. is_noted id ks) ends ∙ sym (or_false (is_noted id old.ends.keys))
     ∙ ap (λ t. is_noted id old.ends.keys || t) (sym (no id)))
   where
@@ -107,7 +112,8 @@ without_control blocks b old new h none used ends =
     no id = ap (λ o. controls id o) none
 
 -- a control that is noted: whether it was before makes it used
-with_control : (blocks : List Block) (b : Block) (a : ValueId) (old new : UseTable) → TellsOf blocks old → b.control ≡ Some a
+with_control : (blocks : List Block) (b : Block) (a : ValueId) (old new : UseTable) → TellsOf blocks old
+    → b.control ≡ Some a
     → ((id : ValueId) → is_noted id new.used.keys
     ≡ ((is_noted id old.used.keys || is_taken id b.values) || (is_noted id old.ends.keys && same_value a id)))
     → ((id : ValueId) → is_noted id new.ends.keys ≡ cond (same_value a id) true (is_noted id old.ends.keys))
@@ -116,7 +122,8 @@ with_control blocks b a old new h some used ends =
     told blocks b old new h
     (λ id. used id
     ∙ ap (λ t. (is_noted id old.used.keys || is_taken id b.values) || (is_noted id old.ends.keys && t)) (its id))
-    (λ id. ends id ∙ put_one (same_value a id) (is_noted id old.ends.keys) ∙ ap (λ t. is_noted id old.ends.keys || t) (its id))
+    (λ id. ends id ∙ put_one (same_value a id) (is_noted id old.ends.keys)
+    ∙ ap (λ t. is_noted id old.ends.keys || t) (its id))
   where
     its : (id : ValueId) → same_value a id ≡ is_control id b
     its id = ap (λ o. controls id o) (sym some)
@@ -149,7 +156,8 @@ shared_control blocks b a old new h some there used ends =
     (λ id. used id ∙ put_one (same_value a id) (is_noted id old.used.keys || is_taken id b.values)
     ∙ ap (λ t. (is_noted id old.used.keys || is_taken id b.values) || t) (both id (same_value a id) refl)) ends
   where
-    both : (id : ValueId) (t : Bool) → same_value a id ≡ t → same_value a id ≡ (is_noted id old.ends.keys && same_value a id)
+    both : (id : ValueId) (t : Bool) → same_value a id ≡ t
+        → same_value a id ≡ (is_noted id old.ends.keys && same_value a id)
     both id true same = ap (λ t. t && same_value a id) (sym (noted_alike a id old.ends.keys same ∙ there))
     both id false other = other ∙ sym (and_right (is_noted id old.ends.keys) (same_value a id) other)
 
@@ -169,13 +177,15 @@ other_passes test b other = not (same_block other.id b.id) && test other
 module _ (test : Block → Bool) (b : Block) where
   not_same : (other : Block) → b.id.n ≢ other.id.n → same_block other.id b.id ≡ false
   not_same other apart =
-      and_left (eqb other.id.n b.id.n) (beq other.id.split b.id.split) (ne_eqb other.id.n b.id.n (λ same. apart (sym same)))
+      and_left (eqb other.id.n b.id.n) (beq other.id.split b.id.split)
+      (ne_eqb other.id.n b.id.n (λ same. apart (sym same)))
 
   other_is : (other : Block) → b.id.n ≢ other.id.n → other_passes test b other ≡ test other
   other_is other apart = ap (λ t. not t && test other) (not_same other apart)
 
   -- where the block itself is not among them
-  others_are : (blocks : List Block) → Apart b.id.n blocks → list_any (other_passes test b) blocks ≡ list_any test blocks
+  others_are : (blocks : List Block) → Apart b.id.n blocks
+      → list_any (other_passes test b) blocks ≡ list_any test blocks
   others_are [] apart = refl
   others_are (x ∷ blocks) apart = λ i. other_is x apart.0 i || others_are blocks apart.1 i
 
@@ -196,7 +206,8 @@ module _ (test : Block → Bool) (b : Block) where
       or_right (test x) (list_any test blocks) (stands_there blocks k (omega (arith, within)) is passes)
 
   -- several pass where one does beside this one
-  several_beside : (blocks : List Block) (k : ℕ) → k < length blocks → get_or blocks k b ≡ b → AllApart blocks → test b ≡ true
+  several_beside : (blocks : List Block) (k : ℕ) → k < length blocks → get_or blocks k b ≡ b → AllApart blocks
+      → test b ≡ true
       → several_pass test blocks ≡ list_any (other_passes test b) blocks
   several_beside [] k within is apart passes = absurd (omega (arith, within))
   several_beside (x ∷ blocks) zero within is apart passes =
@@ -216,7 +227,8 @@ module _ (test : Block → Bool) (b : Block) where
       and_true false = refl
 
 -- the uses of a block's control are those by others
-pub used_elsewhere : (f : Func) → WellFormedFunc f → (b : Block) → Contains f.blocks b → (id : ValueId) → is_control id b ≡ true
+pub used_elsewhere : (f : Func) → WellFormedFunc f → (b : Block) → Contains f.blocks b → (id : ValueId)
+    → is_control id b ≡ true
     → is_used_among id f.blocks ≡ is_used_elsewhere f b id
 used_elsewhere f whole b there id is_its =
     ap (λ t. is_taken id (flat_map (λ (x : Block). x.values) f.blocks) || t)

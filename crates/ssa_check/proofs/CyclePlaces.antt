@@ -1,5 +1,8 @@
--- From the least number on a cycle to the least place that fails the check Cycle; and what earlier checks give to blocks.
-use Rattle.std.proofs.Common.{◌≡◌, ◌≢◌, ℕ, zero, suc, ◌+◌, ◌==◌, nat_lt, ◌<◌, ◌≤◌, ◌⊎◌, inl, inr, Bool, true, false, if◌then◌else◌, List, [], ◌∷◌, ◌++◌, length, get_or, map, Option, None, Some, MatchOption, refl, subst, sym, ap, ◌∙◌, arith}
+-- From the least number on a cycle to the least place that fails the check Cycle; and what earlier checks give to
+-- blocks.
+use Rattle.std.proofs.Common.{◌≡◌, ◌≢◌, ℕ, zero, suc, ◌+◌, ◌==◌, nat_lt, ◌<◌, ◌≤◌, ◌⊎◌, inl, inr, Bool, true, false}
+use Rattle.std.proofs.Common.{if◌then◌else◌, List, [], ◌∷◌, ◌++◌, length, get_or, map, Option, None, Some, MatchOption}
+use Rattle.std.proofs.Common.{refl, subst, sym, ap, ◌∙◌, arith}
 use Rattle.std.specs.List.{All, AllPairs, Any, flat_map}
 use Rattle.std.proofs.lemmas.Bool.{eq-eqb, eqb-true, ltb-false, ltb-true, ne_eqb, true_from_ne_false}
 use Rattle.std.proofs.lemmas.List.{get_or-append-add, get_or_append_left, length-append, length-map}
@@ -12,19 +15,21 @@ use Rattle.ssa_ir.specs.declared.func.Block.{Block}
 use Rattle.ssa_ir.specs.declared.func.Func.{Func}
 use Rattle.ssa_ir.specs.declared.func.SsaUnit.{SsaUnit}
 use Rattle.ssa_ir.specs.declared.func.Value.{Value}
-use Rattle.ssa_ir.specs.FirstOrder.{is_follower, same_value}
+use Rattle.ssa_ir.specs.FirstOrder.{same_value}
+use Rattle.ssa_ir.specs.OpKinds.{is_follower}
 use Rattle.ssa_ir.specs.Lookups.{values_of}
 use Rattle.ssa_ir.specs.Ops.{row_of}
 use Rattle.ssa_ir.specs.WellFormed.{WellFormedFunc}
 use Rattle.ssa_check.specs.declared.refusal.At.{At as Where}
 use Rattle.ssa_check.specs.declared.refusal.At.TheVariants.{Func as AtFunc, Value as AtValue, Block as AtBlock}
 use Rattle.ssa_check.specs.declared.refusal.Check.TheVariants.{Arity, Cycle}
-use Rattle.ssa_check.specs.declared.values.Place.{Place}
+use Rattle.ssa_tables.specs.declared.values.Place.{Place}
 use Rattle.ssa_check.specs.Failing.{FailsAt, IsBefore, LeastPlace, Meets, at_value}
-use Rattle.ssa_check.specs.Items.{HasItems, Indexes, IsLeast, IsOnCycle, first_from, index_in, index_of, lower_of}
-use Rattle.ssa_check.specs.Tables.{place_in, places_from, places_in, places_of}
+use Rattle.ssa_check.specs.Items.{HasItems, Indexes, IsLeast, IsOnCycle, index_in, index_of, lower_of}
+use Rattle.gossa_base.specs.Lists.{first_from}
+use Rattle.ssa_tables.specs.Places.{place_in, places_from, places_in, places_of}
 use Rattle.ssa_check.specs.ValueChecks.{arity_holds, is_number_of}
-use Rattle.ssa_check.proofs.ItemLists.{At, any_from_at, first_at}
+use Rattle.gossa_base.proofs.ListPlaces.{At, any_from_at, first_at}
 use Rattle.graphs.proofs.AnyLemmas.{any_none, any_front, any_push_cases}
 
 -- ---- the least place
@@ -74,7 +79,8 @@ selects_one u f meets k b at i d within follows =
     let v : Value = get_or b.values i d in
     follower_arity v.op (length v.args) follows (true_from_ne_false (arity_holds v) (λ fails. meets (AtValue v.id)
     (any_from_at (λ (c : Block). Any (λ (w : Value). (w.id ≡ v.id) × (arity_holds w ≡ false)) c.values) f.blocks k b at
-    (any_from_at (λ (w : Value). (w.id ≡ v.id) × (arity_holds w ≡ false)) b.values i v (slice_get-get_or b.values i d within) (refl, fails)))))
+    (any_from_at (λ (w : Value). (w.id ≡ v.id) × (arity_holds w ≡ false)) b.values i v
+    (slice_get-get_or b.values i d within) (refl, fails)))))
 
 get_or_map : {X Y : Type 0} (g : X → Y) (xs : List X) (i : ℕ) (d : X) → get_or (map g xs) i (g d) ≡ g (get_or xs i d)
 get_or_map g [] i d = refl
@@ -98,7 +104,8 @@ apart_left xs ys h i j d before within same =
 apart_right : (xs ys : List Value) → Apart (xs ++ ys) → Apart ys
 apart_right xs ys h i j d before within same =
     h (length xs + i) (length xs + j) d (omega (arith, before)) (omega (arith, within, length-append xs ys))
-    (ap (λ (v : Value). v.id.0) (get_or-append-add xs ys i d) ∙ same ∙ sym (ap (λ (v : Value). v.id.0) (get_or-append-add xs ys j d)))
+    (ap (λ (v : Value). v.id.0) (get_or-append-add xs ys i d) ∙ same
+    ∙ sym (ap (λ (v : Value). v.id.0) (get_or-append-add xs ys j d)))
 
 -- a number of the front isn't behind it
 apart_both : (xs ys : List Value) → Apart (xs ++ ys) → (i j : ℕ) (v w : Value) → At xs i v → At ys j w
@@ -106,7 +113,8 @@ apart_both : (xs ys : List Value) → Apart (xs ++ ys) → (i j : ℕ) (v w : Va
 apart_both xs ys h i j v w at_v at_w same =
     h i (length xs + j) v (omega (arith, slice_get_within xs i v at_v))
     (omega (arith, slice_get_within ys j w at_w, length-append xs ys))
-    (ap (λ (z : Value). z.id.0) (get_or_append_left xs ys v i (slice_get_within xs i v at_v) ∙ get_or_from_slice_get xs i v v at_v) ∙ same
+    (ap (λ (z : Value). z.id.0)
+    (get_or_append_left xs ys v i (slice_get_within xs i v at_v) ∙ get_or_from_slice_get xs i v v at_v) ∙ same
     ∙ sym (ap (λ (z : Value). z.id.0) (get_or-append-add xs ys j v ∙ get_or_from_slice_get ys j w v at_w)))
 
 abbrev all_values : List Block → List Value
@@ -134,12 +142,14 @@ or_else n None other = other
 or_else n (Some i) other = Some (record { block = n; index = i })
 
 place_first : (n k : ℕ) (values : List Value) (more : List (ℕ × Place)) (id : ValueId)
-    → place_in (places_in n k values ++ more) id ≡ or_else n (first_from (λ v. same_value v.id id) k values) (place_in more id)
+    → place_in (places_in n k values ++ more) id
+    ≡ or_else n (first_from (λ v. same_value v.id id) k values) (place_in more id)
 place_first n k [] more id = refl
 place_first n k (v ∷ values) more id = by_test (v.id.0 == id.0) (place_first n (suc k) values more id)
   where
     by_test : (b : Bool)
-        → place_in (places_in n (suc k) values ++ more) id ≡ or_else n (first_from (λ w. same_value w.id id) (suc k) values) (place_in more id)
+        → place_in (places_in n (suc k) values ++ more) id
+        ≡ or_else n (first_from (λ w. same_value w.id id) (suc k) values) (place_in more id)
         → (if b then Some (record { block = n; index = k }) else place_in (places_in n (suc k) values ++ more) id)
         ≡ or_else n (if b then Some k else first_from (λ w. same_value w.id id) (suc k) values) (place_in more id)
     by_test true rest = refl
@@ -151,7 +161,8 @@ later_block : (b n : ℕ) (blocks : List Block) (id : ValueId) → b < n
 later_block b n [] id before = refl
 later_block b n (c ∷ blocks) id before =
     ap (index_in b) (place_first n 0 c.values (places_from (suc n) blocks) id)
-    ∙ by_index (first_from (λ v. same_value v.id id) 0 c.values) (later_block b (suc n) blocks id (omega (arith, before)))
+    ∙ by_index (first_from (λ v. same_value v.id id) 0 c.values)
+    (later_block b (suc n) blocks id (omega (arith, before)))
   where
     by_index : (o : Option ℕ) → index_in b (place_in (places_from (suc n) blocks) id) ≡ None
         → index_in b (or_else n o (place_in (places_from (suc n) blocks) id)) ≡ None
@@ -197,7 +208,8 @@ not_later c blocks apart k b at id i h = by_index (index_of b.values id) refl
         let here : Stands c.values id = index_at c.values id i h in
         let there : Stands b.values id = index_at b.values id j e in
         let among : (j : ℕ) × At (all_values blocks) j there.1 = at_all blocks k b there.0 there.1 at there.2 in
-        apart_both c.values (all_values blocks) apart here.0 among.0 here.1 there.1 here.2 among.1 (here.3 ∙ sym there.3)
+        apart_both c.values (all_values blocks) apart here.0 among.0 here.1 there.1 here.2 among.1
+        (here.3 ∙ sym there.3)
 
     by_index : (o : Option ℕ) → index_of b.values id ≡ o → None ≡ index_of b.values id
     by_index None e = sym e

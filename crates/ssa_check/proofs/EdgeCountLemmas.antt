@@ -1,5 +1,7 @@
 -- How often an edge stands among those that the blocks of a function list.
-use Rattle.std.proofs.Common.{◌≡◌, ◌≢◌, ℕ, zero, suc, ◌+◌, ◌<◌, ◌⊎◌, inl, inr, Bool, true, false, cond, eqb, ◌==◌, ◌&&◌, List, [], ◌∷◌, ◌++◌, length, map, get_or, filter, find, flat_map, is_some, Some, refl, subst, sym, ap, ◌∙◌, All, Any, length-append, arith}
+use Rattle.std.proofs.Common.{◌≡◌, ◌≢◌, ℕ, zero, suc, ◌+◌, ◌<◌, ◌⊎◌, inl, inr, Bool, true, false, cond, eqb, ◌==◌, ◌&&◌}
+use Rattle.std.proofs.Common.{List, [], ◌∷◌, ◌++◌, length, map, get_or, filter, find, flat_map, is_some, Some, refl}
+use Rattle.std.proofs.Common.{subst, sym, ap, ◌∙◌, All, Any, length-append, arith}
 use Rattle.std.specs.Bool.{beq}
 use Rattle.std.proofs.lemmas.Bool.{eqb-true, eq-eqb, ne_eqb, and_right, and_parts, cases_eq}
 use Rattle.std.proofs.lemmas.List.Elements.{filter-append, All-tail}
@@ -35,7 +37,8 @@ module _ (e : Edge) (n : ℕ) where
   counted_from : (ids : List BlockId) → e.source ≡ n → count e (from_here ids) ≡ times_number e.target ids
   counted_from [] is = refl
   counted_from (x ∷ ids) is =
-      ap (λ t. length (cond (eqb x.n e.target && t) (record { target = x.n; source = n } ∷ rest) rest)) (eq-eqb n e.source (sym is))
+      ap (λ t. length (cond (eqb x.n e.target && t) (record { target = x.n; source = n } ∷ rest) rest))
+      (eq-eqb n e.source (sym is))
       ∙ go (eqb x.n e.target) (counted_from ids is)
     where
       rest : List Edge
@@ -58,7 +61,8 @@ module _ (e : Edge) (n : ℕ) where
   counted_to : (ids : List BlockId) → e.target ≡ n → count e (to_here ids) ≡ times_number e.source ids
   counted_to [] is = refl
   counted_to (x ∷ ids) is =
-      ap (λ t. length (cond (t && eqb x.n e.source) (record { target = n; source = x.n } ∷ rest) rest)) (eq-eqb n e.target (sym is))
+      ap (λ t. length (cond (t && eqb x.n e.source) (record { target = n; source = x.n } ∷ rest) rest))
+      (eq-eqb n e.target (sym is))
       ∙ go (eqb x.n e.source) (counted_to ids is)
     where
       rest : List Edge
@@ -73,7 +77,8 @@ module _ (e : Edge) (n : ℕ) where
   none_to : (ids : List BlockId) → e.target ≢ n → count e (to_here ids) ≡ 0
   none_to [] other = refl
   none_to (x ∷ ids) other =
-      ap (λ t. length (cond (t && eqb x.n e.source) (record { target = n; source = x.n } ∷ filter (λ y. same_edge y e) (to_here ids))
+      ap (λ t. length (cond (t && eqb x.n e.source)
+      (record { target = n; source = x.n } ∷ filter (λ y. same_edge y e) (to_here ids))
       (filter (λ y. same_edge y e) (to_here ids))))
       (ne_eqb n e.target (λ is. other (sym is)))
       ∙ none_to ids other
@@ -90,10 +95,12 @@ AllApart [] = Unit {0}
 AllApart (b ∷ blocks) = Apart b.id.n blocks × AllApart blocks
 
 apart_from : (n : ℕ) (blocks : List Block)
-    → ((j d : ℕ) → j < length (map (λ (b : Block). b.id.n) blocks) → n ≢ get_or (map (λ (b : Block). b.id.n) blocks) j d)
+    → ((j d : ℕ) → j < length (map (λ (b : Block). b.id.n) blocks)
+    → n ≢ get_or (map (λ (b : Block). b.id.n) blocks) j d)
     → Apart n blocks
 apart_from n [] h = tt
-apart_from n (b ∷ blocks) h = (h 0 n (omega arith), apart_from n blocks (λ j d within. h (suc j) d (omega (arith, within))))
+apart_from n (b ∷ blocks) h =
+    (h 0 n (omega arith), apart_from n blocks (λ j d within. h (suc j) d (omega (arith, within))))
 
 pub all_apart : (blocks : List Block) → Differ (map (λ (b : Block). b.id.n) blocks) → AllApart blocks
 all_apart [] h = tt
@@ -102,7 +109,8 @@ all_apart (b ∷ blocks) h = (
   all_apart blocks (λ i j d before within. h (suc i) (suc j) d (omega (arith, before)) (omega (arith, within))),
 )
 
-pub apart_at : (n : ℕ) (blocks : List Block) (k : ℕ) (s : Block) → k < length blocks → get_or blocks k s ≡ s → Apart n blocks
+pub apart_at : (n : ℕ) (blocks : List Block) (k : ℕ) (s : Block) → k < length blocks → get_or blocks k s ≡ s
+    → Apart n blocks
     → n ≢ s.id.n
 apart_at n [] k s within is apart = absurd (omega (arith, within))
 apart_at n (b ∷ blocks) zero s within is apart = λ same. apart.0 (same ∙ ap (λ (x : Block). x.id.n) (sym is))
@@ -120,13 +128,15 @@ some_or_none n (b ∷ blocks) = go (cases_eq n b.id.n) (some_or_none n blocks)
     go (inr other) (inr none) = inr (other, none)
 
 -- where each block but one lists the edge not at all
-module _ (edges_of : Block → List Edge) (e : Edge) (n : ℕ) (others : (b : Block) → n ≢ b.id.n → count e (edges_of b) ≡ 0) where
+module _ (edges_of : Block → List Edge) (e : Edge) (n : ℕ)
+    (others : (b : Block) → n ≢ b.id.n → count e (edges_of b) ≡ 0) where
   pub none_lists : (blocks : List Block) → Apart n blocks → count e (flat_map edges_of blocks) ≡ 0
   none_lists [] apart = refl
   none_lists (b ∷ blocks) apart =
       omega (arith, count_append e (edges_of b) (flat_map edges_of blocks), others b apart.0, none_lists blocks apart.1)
 
-  pub one_lists : (blocks : List Block) (k : ℕ) (s : Block) → k < length blocks → get_or blocks k s ≡ s → AllApart blocks
+  pub one_lists : (blocks : List Block) (k : ℕ) (s : Block) → k < length blocks → get_or blocks k s ≡ s
+      → AllApart blocks
       → n ≡ s.id.n → count e (flat_map edges_of blocks) ≡ count e (edges_of s)
   one_lists [] k s within is apart here = absurd (omega (arith, within))
   one_lists (b ∷ blocks) zero s within is apart here =
@@ -157,7 +167,8 @@ found_of id (b ∷ blocks) h = go (same_block b.id id) refl h (found_of id block
   where
     go : (t : Bool) → same_block b.id id ≡ t
         → is_some (cond t (Some b) (find (λ (x : Block). same_block x.id id) blocks)) ≡ true
-        → (is_some (find (λ (x : Block). same_block x.id id) blocks) ≡ true → Any (λ (x : Block). same_block x.id id ≡ true) blocks)
+        → (is_some (find (λ (x : Block). same_block x.id id) blocks) ≡ true
+        → Any (λ (x : Block). same_block x.id id ≡ true) blocks)
         → Any (λ (x : Block). same_block x.id id ≡ true) (b ∷ blocks)
     go true here h later = any_here b blocks here
     go false other h later = any_later b blocks (later h)

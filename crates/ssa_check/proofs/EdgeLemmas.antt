@@ -1,5 +1,7 @@
 -- The first difference of a function's edges in order is the lowest block at which the check Edges fails.
-use Rattle.std.proofs.Common.{◌≡◌, ◌≢◌, ℕ, ◌<◌, ◌⊎◌, inl, inr, Bool, true, false, not, ◌&&◌, List, [], ◌∷◌, length, get_or, Option, None, Some, refl, subst, sym, ap, ◌∙◌, All, Any, IsPermutation, IsSorted, arith}
+use Rattle.std.proofs.Common.{◌≡◌, ◌≢◌, ℕ, ◌<◌, ◌⊎◌, inl, inr, Bool, true, false, not, ◌&&◌, List, [], ◌∷◌, length}
+use Rattle.std.proofs.Common.{get_or, Option, None, Some, refl, subst, sym, ap, ◌∙◌, All, Any, IsPermutation, IsSorted}
+use Rattle.std.proofs.Common.{arith}
 use Rattle.std.specs.List.{list_all}
 use Rattle.std.proofs.lemmas.Bool.{eqb-false, ne_eqb, not-true, not_from_false}
 use Rattle.std.proofs.lemmas.List.Folds.{list_all_at}
@@ -9,8 +11,9 @@ use Rattle.ssa_ir.specs.WellFormed.{BlockIsThere, WellFormedFunc}
 use Rattle.ssa_check.specs.declared.edges.Edge.{Edge}
 use Rattle.ssa_check.specs.BlockChecks.{agree, edges_hold, times}
 use Rattle.ssa_check.specs.EdgeTables.{edge_cmp, all_outgoing, all_incoming, first_difference}
-use Rattle.ssa_check.specs.Tables.{lowest_block}
-use Rattle.ssa_check.proofs.EdgeCountLemmas.{Apart, some_or_none, unsplit_of, times_by_number, none_named, outgoing_of, incoming_of, no_outgoing, no_incoming}
+use Rattle.ssa_check.specs.Lowest.{lowest_block}
+use Rattle.ssa_check.proofs.EdgeCountLemmas.{Apart, some_or_none, unsplit_of, times_by_number, none_named, outgoing_of}
+use Rattle.ssa_check.proofs.EdgeCountLemmas.{incoming_of, no_outgoing, no_incoming}
 use Rattle.ssa_check.proofs.EdgeOrderLemmas.{count, count_moved, ascends, Differs, lowest_difference}
 use Rattle.graphs.proofs.AnyLemmas.{any_here, any_later}
 use Rattle.ssa_check.proofs.LowestLemmas.{IsLowest, same_lowest}
@@ -60,7 +63,8 @@ module _ (f : Func) (whole : WellFormedFunc f) where
         ne_eqb (times s.id t.preds) (times t.id s.succs) (λ same. differ (sym succs_counted ∙ sym same ∙ preds_counted))
 
   -- a block of a failing number fails
-  fails_there : (k : ℕ) → Differs (all_outgoing f) (all_incoming f) k → BlockCounts (λ b. not (edges_hold f b)) f.blocks k
+  fails_there : (k : ℕ) → Differs (all_outgoing f) (all_incoming f) k
+      → BlockCounts (λ b. not (edges_hold f b)) f.blocks k
   fails_there k (e, at, differ) = go (some_or_none e.source f.blocks) (some_or_none e.target f.blocks)
     where
       go : Any (λ (b : Block). e.source ≡ b.id.n) f.blocks ⊎ Apart e.source f.blocks
@@ -79,7 +83,8 @@ module _ (f : Func) (whole : WellFormedFunc f) where
           ∙ none_named f whole e.source no_source t.preds
           (subst (λ (b : Block). All (BlockIsThere f) b.preds) is (whole.preds_there i t within)))))
       go (inl (j, s, within_s, is_s, named_s)) (inl (i, t, within_t, is_t, named_t)) =
-          let same : e ≡ edge s t j i within_s is_s within_t is_t = λ x. record { target = named_t x; source = named_s x } in
+          let same : e ≡ edge s t j i within_s is_s within_t is_t =
+          λ x. record { target = named_t x; source = named_s x } in
           let apart : agree s t ≡ false =
           apart_where_differ s t j i within_s is_s within_t is_t
           (subst (λ x. count x (all_outgoing f) ≢ count x (all_incoming f)) same differ) in
@@ -87,13 +92,18 @@ module _ (f : Func) (whole : WellFormedFunc f) where
           list_all_at (λ x. agree x t) f.blocks j s within_s (ap (λ (x : Block). agree x t) is_s ∙ apart) in
           (i, t, within_t, is_t, (not_from_false (edges_hold f t) fails, sym at ∙ named_t))
 
-  fails_back : (k : ℕ) → BlockCounts (λ b. not (edges_hold f b)) f.blocks k → Differs (all_outgoing f) (all_incoming f) k
+  fails_back : (k : ℕ) → BlockCounts (λ b. not (edges_hold f b)) f.blocks k
+      → Differs (all_outgoing f) (all_incoming f) k
   fails_back k (i, t, within_t, is_t, fails) =
       go (some_fails (λ s. agree s t) f.blocks (not-true (edges_hold f t) fails.0))
     where
       go : Any (λ s. agree s t ≡ false) f.blocks → Differs (all_outgoing f) (all_incoming f) k
-      go (j, s, within_s, is_s, apart) =
-          (record { target = t.id.n; source = s.id.n }, sym fails.1, differ_where_apart s t j i within_s is_s within_t is_t apart)
+      go (j, s, within_s, is_s, apart) = (
+        record { target = t.id.n; source = s.id.n },
+        sym fails.1,
+        differ_where_apart s t j i within_s is_s within_t
+            is_t apart,
+      )
 
   -- the lists in order give the lowest block that fails
   pub edges_lowest : (left right : List Edge) → IsPermutation (all_outgoing f) left → IsSorted edge_cmp left

@@ -1,7 +1,12 @@
--- Of two lists of edges in order, the first difference is the lowest target of an edge that they don't have equally often.
-use Rattle.std.proofs.Common.{◌≡◌, ◌≢◌, ℕ, zero, suc, ◌+◌, ◌≤◌, ◌<◌, ◌⊎◌, inl, inr, Bool, true, false, cond, eqb, nat_lt, if◌then◌else◌, List, [], ◌∷◌, length, drop, get_or, filter, Option, Some, slice_get, refl, subst, sym, ap, ◌∙◌, IsPermutation, IsSorted, is_lt, nat_cmp, Less, Equal, Greater, arith}
+-- Of two lists of edges in order, the first difference is the lowest target of an edge that they don't have equally
+-- often.
+use Rattle.std.proofs.Common.{◌≡◌, ◌≢◌, ℕ, zero, suc, ◌+◌, ◌≤◌, ◌<◌, ◌⊎◌, inl, inr, Bool, true, false, cond, eqb}
+use Rattle.std.proofs.Common.{nat_lt, if◌then◌else◌, List, [], ◌∷◌, length, drop, get_or, filter, Option, Some}
+use Rattle.std.proofs.Common.{slice_get, refl, subst, sym, ap, ◌∙◌, IsPermutation, IsSorted, is_lt, nat_cmp, Less}
+use Rattle.std.proofs.Common.{Equal, Greater, arith}
 use Rattle.std.specs.Ordering.{ordering_then}
-use Rattle.std.proofs.lemmas.Bool.{ltb-true, ltb-false, eqb-true, eqb-false, eq-eqb, ne_eqb, and_left, and_right, and_parts, and_from, cases_lt, cases_order}
+use Rattle.std.proofs.lemmas.Bool.{ltb-true, ltb-false, eqb-true, eqb-false, eq-eqb, ne_eqb, and_left, and_right}
+use Rattle.std.proofs.lemmas.Bool.{and_parts, and_from, cases_lt, cases_order}
 use Rattle.std.proofs.lemmas.List.Sorted.{sum_by-IsPermutation}
 use Rattle.std.proofs.lemmas.List.Sums.{length-filter}
 use Rattle.std.proofs.lemmas.Map.Keys.{ge_from_not_lt}
@@ -68,13 +73,15 @@ not_behind t s u v false false below same h = inl (above (cases_order t u))
     above (inr (inr higher)) = omega (arith, higher, ltb-false u t below)
 
 not_less : (a b : Edge) → is_lt (edge_cmp b a) ≡ false → NotBehind a b
-not_less a b h = not_behind a.target a.source b.target b.source (nat_lt b.target a.target) (eqb b.target a.target) refl refl h
+not_less a b h =
+    not_behind a.target a.source b.target b.source (nat_lt b.target a.target) (eqb b.target a.target) refl refl h
 
 before_other : (e a : Edge) → Before e a → same_edge a e ≡ false
 before_other e a (inl lower) =
     and_left (eqb a.target e.target) (eqb a.source e.source) (ne_eqb a.target e.target (λ is. omega (arith, is, lower)))
 before_other e a (inr lower) =
-    and_right (eqb a.target e.target) (eqb a.source e.source) (ne_eqb a.source e.source (λ is. omega (arith, is, lower.1)))
+    and_right (eqb a.target e.target) (eqb a.source e.source)
+    (ne_eqb a.source e.source (λ is. omega (arith, is, lower.1)))
 
 before_later : (e a b : Edge) → Before e a → NotBehind a b → Before e b
 before_later e a b (inl p) (inl q) = inl (omega (arith, p, q))
@@ -93,7 +100,8 @@ apart a b other = go (cases_order a.target b.target) (cases_order a.source b.sou
     go (inl p) (inr (inl q)) = inl (inr (p, q))
     go (inl p) (inr (inr q)) = inr (inr (sym p, q))
     go (inl p) (inl q) =
-        let same : same_edge a b ≡ true = and_from (eqb a.target b.target) (eqb a.source b.source) (eq-eqb a.target b.target p)
+        let same : same_edge a b ≡ true =
+        and_from (eqb a.target b.target) (eqb a.source b.source) (eq-eqb a.target b.target p)
         (eq-eqb a.source b.source q) in
         cc
 
@@ -123,8 +131,11 @@ ascends (a ∷ b ∷ edges) h =
     next = not_less a b (h 0 a (omega arith) (omega arith))
 
     joined : Ascends (b ∷ edges) → Ascends (a ∷ b ∷ edges)
-    joined rest =
-        ((λ e before. count_other a e (b ∷ edges) (before_other e a before) ∙ rest.0 e (before_later e a b before next)), rest)
+    joined rest = (
+      (λ e before. count_other a e (b ∷ edges) (before_other e a before)
+          ∙ rest.0 e (before_later e a b before next)),
+      rest,
+    )
 
 -- ---- the first difference
 
@@ -145,11 +156,13 @@ with_front : (a : Edge) (left right : List Edge) (r : Option ℕ) → IsLowest r
     → IsLowest r (Differs (a ∷ left) (a ∷ right))
 with_front a left right r h = same_lowest r (Differs left right) (Differs (a ∷ left) (a ∷ right)) there back h
   where
-    more : (e : Edge) (t : Bool) → same_edge a e ≡ t → count e (a ∷ left) ≡ count e (a ∷ right) → count e left ≡ count e right
+    more : (e : Edge) (t : Bool) → same_edge a e ≡ t → count e (a ∷ left) ≡ count e (a ∷ right)
+        → count e left ≡ count e right
     more e true same is = omega (arith, is, count_same a e left same, count_same a e right same)
     more e false other is = sym (count_other a e left other) ∙ is ∙ count_other a e right other
 
-    less : (e : Edge) (t : Bool) → same_edge a e ≡ t → count e left ≡ count e right → count e (a ∷ left) ≡ count e (a ∷ right)
+    less : (e : Edge) (t : Bool) → same_edge a e ≡ t → count e left ≡ count e right
+        → count e (a ∷ left) ≡ count e (a ∷ right)
     less e true same is = count_same a e left same ∙ ap suc is ∙ sym (count_same a e right same)
     less e false other is = count_other a e left other ∙ is ∙ sym (count_other a e right other)
 
@@ -163,19 +176,25 @@ with_front a left right r h = same_lowest r (Differs left right) (Differs (a ∷
 module _ (a b : Edge) (left right : List Edge) (l : NoneBefore a (a ∷ left)) (r : NoneBefore b (b ∷ right)) where
   left_first : (m : ℕ) → Before a b → a.target ≡ m → IsLowest (Some m) (Differs (a ∷ left) (b ∷ right))
   left_first m before is =
-      lowest_is (a ∷ left) (b ∷ right) m a is (λ same. omega (arith, same, count_self a left, r a before)) (below before)
+      lowest_is (a ∷ left) (b ∷ right) m a is (λ same. omega (arith, same, count_self a left, r a before))
+      (below before)
     where
       below : Before a b → (e : Edge) → e.target < m → count e (a ∷ left) ≡ count e (b ∷ right)
-      below (inl lower) e under = l e (inl (omega (arith, under, is))) ∙ sym (r e (inl (omega (arith, under, is, lower))))
-      below (inr lower) e under = l e (inl (omega (arith, under, is))) ∙ sym (r e (inl (omega (arith, under, is, lower.0))))
+      below (inl lower) e under =
+          l e (inl (omega (arith, under, is))) ∙ sym (r e (inl (omega (arith, under, is, lower))))
+      below (inr lower) e under =
+          l e (inl (omega (arith, under, is))) ∙ sym (r e (inl (omega (arith, under, is, lower.0))))
 
   right_first : (m : ℕ) → Before b a → b.target ≡ m → IsLowest (Some m) (Differs (a ∷ left) (b ∷ right))
   right_first m before is =
-      lowest_is (a ∷ left) (b ∷ right) m b is (λ same. omega (arith, same, count_self b right, l b before)) (below before)
+      lowest_is (a ∷ left) (b ∷ right) m b is (λ same. omega (arith, same, count_self b right, l b before))
+      (below before)
     where
       below : Before b a → (e : Edge) → e.target < m → count e (a ∷ left) ≡ count e (b ∷ right)
-      below (inl lower) e under = l e (inl (omega (arith, under, is, lower))) ∙ sym (r e (inl (omega (arith, under, is))))
-      below (inr lower) e under = l e (inl (omega (arith, under, is, lower.0))) ∙ sym (r e (inl (omega (arith, under, is))))
+      below (inl lower) e under =
+          l e (inl (omega (arith, under, is, lower))) ∙ sym (r e (inl (omega (arith, under, is))))
+      below (inr lower) e under =
+          l e (inl (omega (arith, under, is, lower.0))) ∙ sym (r e (inl (omega (arith, under, is))))
 
   at_fronts : (t : Bool) → nat_lt b.target a.target ≡ t → Before a b ⊎ Before b a
       → IsLowest (Some (if t then b.target else a.target)) (Differs (a ∷ left) (b ∷ right))
@@ -192,20 +211,24 @@ pub lowest_difference : (left right : List Edge) → Ascends left → Ascends ri
     → IsLowest (first_difference left right) (Differs left right)
 lowest_difference [] [] l r = λ n d. d.2 refl
 lowest_difference [] (b ∷ right) l r =
-    lowest_is [] (b ∷ right) b.target b refl (λ same. omega (arith, same, count_self b right)) (λ e under. sym (r.0 e (inl under)))
+    lowest_is [] (b ∷ right) b.target b refl (λ same. omega (arith, same, count_self b right))
+    (λ e under. sym (r.0 e (inl under)))
 lowest_difference (a ∷ left) [] l r =
-    lowest_is (a ∷ left) [] a.target a refl (λ same. omega (arith, same, count_self a left)) (λ e under. l.0 e (inl under))
+    lowest_is (a ∷ left) [] a.target a refl (λ same. omega (arith, same, count_self a left))
+    (λ e under. l.0 e (inl under))
 lowest_difference (a ∷ left) (b ∷ right) l r = go (same_edge a b) refl (lowest_difference left right l.1 r.1)
   where
     go : (t : Bool) → same_edge a b ≡ t → IsLowest (first_difference left right) (Differs left right)
-        → IsLowest (behind (a ∷ left) (b ∷ right) (cond t (1 + common_len left right) 0)) (Differs (a ∷ left) (b ∷ right))
+        → IsLowest (behind (a ∷ left) (b ∷ right) (cond t (1 + common_len left right) 0))
+        (Differs (a ∷ left) (b ∷ right))
     go false other h = at_fronts a b left right l.0 r.0 (nat_lt b.target a.target) refl (apart a b other)
     go true same h =
         let parts = and_parts (eqb a.target b.target) (eqb a.source b.source) same in
         let is : a ≡ b =
         λ i. record { target = eqb-true a.target b.target parts.0 i; source = eqb-true a.source b.source parts.1 i } in
         let one : suc (common_len left right) ≡ 1 + common_len left right = omega arith in
-        let here : IsLowest (behind (a ∷ left) (b ∷ right) (suc (common_len left right))) (Differs (a ∷ left) (b ∷ right)) =
+        let here : IsLowest (behind (a ∷ left) (b ∷ right) (suc (common_len left right)))
+        (Differs (a ∷ left) (b ∷ right)) =
         subst (λ (x : Edge). IsLowest (first_difference left right) (Differs (a ∷ left) (x ∷ right))) is
         (with_front a left right (first_difference left right) h) in
         subst (λ n. IsLowest (behind (a ∷ left) (b ∷ right) n) (Differs (a ∷ left) (b ∷ right))) one here

@@ -1,5 +1,6 @@
 -- The functions of a unit one after the other: those so far meet all checks, or one is the first that doesn't.
-use Rattle.std.proofs.Common.{◌≡◌, ℕ, zero, suc, ◌+◌, ◌<◌, Bool, true, false, List, [], ◌∷◌, length, ◌≤◌, get_or, slice_get, Option, None, Some, MatchOption, eqb, refl, sym, ap, subst, ◌∙◌, arith}
+use Rattle.std.proofs.Common.{◌≡◌, ℕ, zero, suc, ◌+◌, ◌<◌, Bool, true, false, List, [], ◌∷◌, length, ◌≤◌, get_or}
+use Rattle.std.proofs.Common.{slice_get, Option, None, Some, MatchOption, eqb, refl, sym, ap, subst, ◌∙◌, arith}
 use Rattle.std.proofs.lemmas.Bool.{eqb-true, eqb-false}
 use Rattle.ssa_ir.specs.declared.func.Func.{Func}
 use Rattle.ssa_ir.specs.declared.func.SsaUnit.{SsaUnit}
@@ -33,7 +34,8 @@ module _ (u : SsaUnit) (items : List Func) (n : ℕ) (func : Func) (whole : item
   pub well_formed_item : WellFormed u → WellFormedFunc func
   well_formed_item h = subst WellFormedFunc (sym is_item) (h.each_function n func inside)
 
-  pub first_of_unit : MetSoFar u n → (o : Option Found) (x : Found) → MatchOption o (MeetsAll u func) (IsFirst u func) → o ≡ Some x
+  pub first_of_unit : MetSoFar u n → (o : Option Found) (x : Found) → MatchOption o (MeetsAll u func) (IsFirst u func)
+      → o ≡ Some x
       → FirstFault u (record { func = n; check = x.check; at = x.at })
   first_of_unit so_far None x h e = cc
   first_of_unit so_far (Some y) x h e =
@@ -44,7 +46,8 @@ module _ (u : SsaUnit) (items : List Func) (n : ℕ) (func : Func) (whole : item
   meets None h e = h
   meets (Some x) h e = cc
 
-  pub one_more_func : MetSoFar u n → (o : Option Found) → MatchOption o (MeetsAll u func) (IsFirst u func) → o ≡ None → MetSoFar u (n + 1)
+  pub one_more_func : MetSoFar u n → (o : Option Found) → MatchOption o (MeetsAll u func) (IsFirst u func) → o ≡ None
+      → MetSoFar u (n + 1)
   one_more_func so_far o h e i f lt there = go (eqb i n) refl
     where
       same : (g : Func) → Some g ≡ Some f → g ≡ f
@@ -57,6 +60,7 @@ module _ (u : SsaUnit) (items : List Func) (n : ℕ) (func : Func) (whole : item
       go false apart = so_far i f (omega (arith, lt, eqb-false i n apart)) there
 
 -- all functions meet all checks
-pub all_accepted : (u : SsaUnit) (items : List Func) (n : ℕ) → items ≡ u.funcs → length items ≤ n → MetSoFar u n → Accepted u
+pub all_accepted : (u : SsaUnit) (items : List Func) (n : ℕ) → items ≡ u.funcs → length items ≤ n → MetSoFar u n
+    → Accepted u
 all_accepted u items n whole past so_far k d within =
     so_far k (get_or u.funcs k d) (omega (arith, within, ap length whole, past)) (item_there u.funcs k d within)

@@ -1,15 +1,18 @@
 -- What the edges of a block say: which item takes a value of which, and which memory an item reads or changes.
-use Rattle.std.proofs.Common.{◌≡◌, ℕ, zero, suc, ◌+◌, ◌==◌, ◌⊎◌, inl, inr, Bool, true, false, ◌&&◌, if◌then◌else◌, List, [], ◌∷◌, ◌++◌, length, Option, None, Some, refl, subst, sym, ap, ◌∙◌, arith}
+use Rattle.std.proofs.Common.{◌≡◌, ℕ, zero, suc, ◌+◌, ◌==◌, ◌⊎◌, inl, inr, Bool, true, false, ◌&&◌, if◌then◌else◌, List}
+use Rattle.std.proofs.Common.{[], ◌∷◌, ◌++◌, length, Option, None, Some, refl, subst, sym, ap, ◌∙◌, arith}
 use Rattle.std.specs.List.{list_any}
 use Rattle.std.proofs.lemmas.Bool.{and_from, and_parts, eq-eqb, eqb-true, or_cases, or_left, or_right}
 use Rattle.std.proofs.lemmas.List.Folds.{list_any-append}
 use Rattle.gossa_base.specs.declared.ids.ValueId.{ValueId}
 use Rattle.ssa_ir.specs.declared.op.Op.{Op}
 use Rattle.ssa_ir.specs.declared.func.Value.{Value}
-use Rattle.ssa_ir.specs.FirstOrder.{changes_memory, memory_taken, reads_memory}
-use Rattle.ssa_check.specs.Items.{arg_edges, block_edges, changer_edge, edge_to, edges_from, first_of, is_index, leads, memory_edges, memory_edges_by, owner, owner_of, reader_edge, value_edges}
+use Rattle.ssa_ir.specs.FirstOrder.{memory_taken}
+use Rattle.ssa_ir.specs.OpKinds.{changes_memory, reads_memory}
+use Rattle.ssa_check.specs.Items.{arg_edges, block_edges, changer_edge, edge_to, edges_from, first_of, is_index, leads}
+use Rattle.ssa_check.specs.Items.{memory_edges, memory_edges_by, owner, owner_of, reader_edge, value_edges}
 use Rattle.graphs.proofs.GraphLemmas.{have_edge, is_edge}
-use Rattle.ssa_check.proofs.ItemLists.{At, any_at, any_flat_map, find_any}
+use Rattle.gossa_base.proofs.ListPlaces.{At, any_at, any_flat_map, find_any}
 use Rattle.ssa_check.proofs.ItemOwners.{IsItem}
 
 -- ---- owners as tests
@@ -36,11 +39,13 @@ ArgEdge block u v = (y : Value) × IsItem block v y × Takes block u y
 
 abbrev pub ReadEdge : (block : List Value) → (u v : ℕ) → Type 0
 ReadEdge block u v =
-    (x : Value) × IsItem block u x × (reads_memory x.op ≡ true) × ((f : ℕ) × TakesFirst block x f × (v ≡ length block + f))
+    (x : Value) × IsItem block u x × (reads_memory x.op ≡ true)
+    × ((f : ℕ) × TakesFirst block x f × (v ≡ length block + f))
 
 abbrev pub ChangeEdge : (block : List Value) → (u v : ℕ) → Type 0
 ChangeEdge block u v =
-    (y : Value) × IsItem block v y × (changes_memory y.op ≡ true) × ((f : ℕ) × TakesFirst block y f × (u ≡ length block + f))
+    (y : Value) × IsItem block v y × (changes_memory y.op ≡ true)
+    × ((f : ℕ) × TakesFirst block y f × (u ≡ length block + f))
 
 abbrev pub EdgeKind : (block : List Value) → (u v : ℕ) → Type 0
 EdgeKind block u v = ArgEdge block u v ⊎ (ReadEdge block u v ⊎ ChangeEdge block u v)
@@ -116,10 +121,13 @@ memory_edges_are : (n i : ℕ) (op : Op) (o : Option ℕ) (u v : ℕ) → have_e
     → ReadsAt n op o i u v ⊎ ChangesAt n op o i u v
 memory_edges_are n i op None u v h = cc
 memory_edges_are n i op (Some f) u v h =
-    from_cases (or_cases (have_edge (reader_edge (reads_memory op) i (n + f)) u v) (have_edge (changer_edge (changes_memory op) i (n + f)) u v)
-    (sym (list_any-append (is_edge u v) (reader_edge (reads_memory op) i (n + f)) (changer_edge (changes_memory op) i (n + f))) ∙ h))
+    from_cases (or_cases (have_edge (reader_edge (reads_memory op) i (n + f)) u v)
+    (have_edge (changer_edge (changes_memory op) i (n + f)) u v)
+    (sym (list_any-append (is_edge u v) (reader_edge (reads_memory op) i (n + f))
+    (changer_edge (changes_memory op) i (n + f))) ∙ h))
   where
-    from_cases : (have_edge (reader_edge (reads_memory op) i (n + f)) u v ≡ true) ⊎ (have_edge (changer_edge (changes_memory op) i (n + f)) u v ≡ true)
+    from_cases : (have_edge (reader_edge (reads_memory op) i (n + f)) u v ≡ true)
+        ⊎ (have_edge (changer_edge (changes_memory op) i (n + f)) u v ≡ true)
         → ReadsAt n op (Some f) i u v ⊎ ChangesAt n op (Some f) i u v
     from_cases (inl reads) =
         let is : (reads_memory op ≡ true) × (i ≡ u) × (n + f ≡ v) = reader_is (reads_memory op) i (n + f) u v reads in
@@ -132,15 +140,19 @@ memory_edges_are n i op (Some f) u v h =
 reads_edge : (n i : ℕ) (op : Op) (f : ℕ) → reads_memory op ≡ true
     → have_edge (memory_edges_by n i op (Some f)) i (n + f) ≡ true
 reads_edge n i op f reads =
-    list_any-append (is_edge i (n + f)) (reader_edge (reads_memory op) i (n + f)) (changer_edge (changes_memory op) i (n + f))
-    ∙ or_left (have_edge (reader_edge (reads_memory op) i (n + f)) i (n + f)) (have_edge (changer_edge (changes_memory op) i (n + f)) i (n + f))
+    list_any-append (is_edge i (n + f)) (reader_edge (reads_memory op) i (n + f))
+    (changer_edge (changes_memory op) i (n + f))
+    ∙ or_left (have_edge (reader_edge (reads_memory op) i (n + f)) i (n + f))
+    (have_edge (changer_edge (changes_memory op) i (n + f)) i (n + f))
     (ap (λ b. have_edge (reader_edge b i (n + f)) i (n + f)) reads ∙ is_one_edge i (n + f))
 
 changes_edge : (n i : ℕ) (op : Op) (f : ℕ) → changes_memory op ≡ true
     → have_edge (memory_edges_by n i op (Some f)) (n + f) i ≡ true
 changes_edge n i op f changes =
-    list_any-append (is_edge (n + f) i) (reader_edge (reads_memory op) i (n + f)) (changer_edge (changes_memory op) i (n + f))
-    ∙ or_right (have_edge (reader_edge (reads_memory op) i (n + f)) (n + f) i) (have_edge (changer_edge (changes_memory op) i (n + f)) (n + f) i)
+    list_any-append (is_edge (n + f) i) (reader_edge (reads_memory op) i (n + f))
+    (changer_edge (changes_memory op) i (n + f))
+    ∙ or_right (have_edge (reader_edge (reads_memory op) i (n + f)) (n + f) i)
+    (have_edge (changer_edge (changes_memory op) i (n + f)) (n + f) i)
     (ap (λ b. have_edge (changer_edge b i (n + f)) (n + f) i) changes ∙ is_one_edge (n + f) i)
 
 -- ---- the edges of a block
@@ -150,7 +162,8 @@ value_edges_are : (block : List Value) (i : ℕ) (y : Value) (u v : ℕ) → At 
 value_edges_are block i y u v at h = by_leads (leads block i y) refl h
   where
     from_memory : IsItem block i y
-        → ReadsAt (length block) y.op (first_of block (memory_taken y.op y.args)) i u v ⊎ ChangesAt (length block) y.op (first_of block (memory_taken y.op y.args)) i u v
+        → ReadsAt (length block) y.op (first_of block (memory_taken y.op y.args)) i u v
+        ⊎ ChangesAt (length block) y.op (first_of block (memory_taken y.op y.args)) i u v
         → EdgeKind block u v
     from_memory item (inl (reads, here, (f, first, to))) =
         inr (inl (y, subst (λ k. IsItem block k y) here item, reads, (f, first, to)))
@@ -180,7 +193,8 @@ value_edges_are block i y u v at h = by_leads (leads block i y) refl h
 item_edges : (block : List Value) (i : ℕ) (y : Value) → IsItem block i y
     → value_edges block i y ≡ arg_edges block i y.args ++ memory_edges block i y
 item_edges block i y item =
-    ap (λ b. if b then arg_edges block i y.args ++ memory_edges block i y else []) (some_is_index (owner_of block i y) i item.own)
+    ap (λ b. if b then arg_edges block i y.args ++ memory_edges block i y else [])
+    (some_is_index (owner_of block i y) i item.own)
 
 edges_at : (block : List Value) (k : ℕ) (values : List Value) (u v : ℕ)
     → have_edge (edges_from block k values) u v ≡ true
@@ -213,7 +227,8 @@ at_edges block k (x ∷ values) u v zero y at h =
     let one : x ≡ y = cc in let same : k + zero ≡ k = omega arith in
     list_any-append (is_edge u v) (value_edges block k x) (edges_from block (suc k) values)
     ∙ or_left (have_edge (value_edges block k x) u v) (have_edge (edges_from block (suc k) values) u v)
-    (ap (λ z. have_edge (value_edges block k z) u v) one ∙ subst (λ j. have_edge (value_edges block j y) u v ≡ true) same h)
+    (ap (λ z. have_edge (value_edges block k z) u v) one
+    ∙ subst (λ j. have_edge (value_edges block j y) u v ≡ true) same h)
 at_edges block k (x ∷ values) u v (suc i) y at h =
     let same : k + suc i ≡ suc k + i = omega arith in
     list_any-append (is_edge u v) (value_edges block k x) (edges_from block (suc k) values)
@@ -236,13 +251,15 @@ item_edge : (block : List Value) (i : ℕ) (y : Value) (u v : ℕ) → IsItem bl
 item_edge block i y u v item h =
     let same : i ≡ 0 + i = omega arith in
     at_edges block 0 block u v i y item.at
-    (subst (λ j. have_edge (value_edges block j y) u v ≡ true) same (ap (λ edges. have_edge edges u v) (item_edges block i y item) ∙ h))
+    (subst (λ j. have_edge (value_edges block j y) u v ≡ true) same
+    (ap (λ edges. have_edge edges u v) (item_edges block i y item) ∙ h))
 
 pub arg_edge : (block : List Value) (u v : ℕ) → ArgEdge block u v → have_edge (block_edges block) u v ≡ true
 arg_edge block u v (y, item, takes) =
     item_edge block v y u v item
     (list_any-append (is_edge u v) (arg_edges block v y.args) (memory_edges block v y)
-    ∙ or_left (have_edge (arg_edges block v y.args) u v) (have_edge (memory_edges block v y) u v) (are_arg_edges block v y.args u takes))
+    ∙ or_left (have_edge (arg_edges block v y.args) u v) (have_edge (memory_edges block v y) u v)
+    (are_arg_edges block v y.args u takes))
 
 pub read_edge : (block : List Value) (u f : ℕ) (x : Value) → IsItem block u x → reads_memory x.op ≡ true
     → TakesFirst block x f
@@ -250,8 +267,10 @@ pub read_edge : (block : List Value) (u f : ℕ) (x : Value) → IsItem block u 
 read_edge block u f x item reads first =
     item_edge block u x u (length block + f) item
     (list_any-append (is_edge u (length block + f)) (arg_edges block u x.args) (memory_edges block u x)
-    ∙ or_right (have_edge (arg_edges block u x.args) u (length block + f)) (have_edge (memory_edges block u x) u (length block + f))
-    (ap (λ o. have_edge (memory_edges_by (length block) u x.op o) u (length block + f)) first ∙ reads_edge (length block) u x.op f reads))
+    ∙ or_right (have_edge (arg_edges block u x.args) u (length block + f))
+    (have_edge (memory_edges block u x) u (length block + f))
+    (ap (λ o. have_edge (memory_edges_by (length block) u x.op o) u (length block + f)) first
+    ∙ reads_edge (length block) u x.op f reads))
 
 pub change_edge : (block : List Value) (v f : ℕ) (y : Value) → IsItem block v y → changes_memory y.op ≡ true
     → TakesFirst block y f
@@ -259,5 +278,7 @@ pub change_edge : (block : List Value) (v f : ℕ) (y : Value) → IsItem block 
 change_edge block v f y item changes first =
     item_edge block v y (length block + f) v item
     (list_any-append (is_edge (length block + f) v) (arg_edges block v y.args) (memory_edges block v y)
-    ∙ or_right (have_edge (arg_edges block v y.args) (length block + f) v) (have_edge (memory_edges block v y) (length block + f) v)
-    (ap (λ o. have_edge (memory_edges_by (length block) v y.op o) (length block + f) v) first ∙ changes_edge (length block) v y.op f changes))
+    ∙ or_right (have_edge (arg_edges block v y.args) (length block + f) v)
+    (have_edge (memory_edges block v y) (length block + f) v)
+    (ap (λ o. have_edge (memory_edges_by (length block) v y.op o) (length block + f) v) first
+    ∙ changes_edge (length block) v y.op f changes))

@@ -1,17 +1,24 @@
 -- Which item a value is of: the owner that its arguments and its index give is the item that has its number.
-use Rattle.std.proofs.Common.{◌≡◌, ℕ, ◌+◌, ◌<◌, ◌⊎◌, inl, inr, Bool, true, false, not, ◌&&◌, ◌||◌, if◌then◌else◌, List, [], ◌∷◌, length, get_or, filter, Option, None, Some, slice_get, refl, subst, sym, ap, ◌∙◌, arith}
+use Rattle.std.proofs.Common.{◌≡◌, ℕ, ◌+◌, ◌<◌, ◌⊎◌, inl, inr, Bool, true, false, not, ◌&&◌, ◌||◌, if◌then◌else◌, List}
+use Rattle.std.proofs.Common.{[], ◌∷◌, length, get_or, filter, Option, None, Some, slice_get, refl, subst, sym, ap, ◌∙◌}
+use Rattle.std.proofs.Common.{arith}
 use Rattle.std.specs.List.{Contains, list_any}
 use Rattle.std.specs.Option.{option_or}
-use Rattle.std.proofs.lemmas.Bool.{and_from, and_parts, both_ways, cases_order, eq-eqb, eqb-true, false_from_ne_true, not_from_false, not-true, or_cases, or_left, or_right}
+use Rattle.std.proofs.lemmas.Bool.{and_from, and_parts, both_ways, cases_order, eq-eqb, eqb-true, false_from_ne_true}
+use Rattle.std.proofs.lemmas.Bool.{not_from_false, not-true, or_cases, or_left, or_right}
 use Rattle.std.proofs.lemmas.Option.{get_or_from_slice_get, slice_get_within}
 use Rattle.gossa_base.specs.declared.ids.ValueId.{ValueId}
 use Rattle.ssa_ir.specs.declared.op.Op.{Op}
 use Rattle.ssa_ir.specs.declared.op.Op.TheVariants.{Phi, SelectN}
 use Rattle.ssa_ir.specs.declared.func.Value.{Value}
-use Rattle.ssa_ir.specs.FirstOrder.{by_number, has_value, is_call, is_follower, is_phi, item, same_value, selects}
-use Rattle.ssa_check.specs.Cycles.{follows_a_call, leaders}
-use Rattle.ssa_check.specs.Items.{HasItems, call_named, calls, index_of, owner, owner_at, owner_of, owner_where, where_call}
-use Rattle.ssa_check.proofs.ItemLists.{At, Found, all_at, any_at, any_by_number, any_filter, at_contains, at_filter, contains_at, filter_at, find_any, first_at, first_only, same_at}
+use Rattle.ssa_ir.specs.FirstOrder.{by_number, has_value, item, same_value, selects}
+use Rattle.ssa_ir.specs.OpKinds.{is_call, is_follower, is_phi}
+use Rattle.ssa_ir.specs.Cycles.{follows_a_call, leaders}
+use Rattle.ssa_check.specs.Items.{HasItems, call_named, calls, index_of, owner, owner_at, owner_of, owner_where}
+use Rattle.ssa_check.specs.Items.{where_call}
+use Rattle.ssa_check.proofs.StandingLemmas.{any_by_number}
+use Rattle.gossa_base.proofs.ListPlaces.{At, Found, all_at, any_at, any_filter, at_contains, at_filter, contains_at}
+use Rattle.gossa_base.proofs.ListPlaces.{filter_at, find_any, first_at, first_only, same_at}
 
 -- ---- ops
 
@@ -57,9 +64,11 @@ module _ (block : List Value) (has : HasItems block) where
       by_order : (i ≡ j) ⊎ ((i < j) ⊎ (j < i)) → i ≡ j
       by_order (inl e) = e
       by_order (inr (inl lt)) =
-          absurd (has.numbers_differ i j v lt (slice_get_within block j w at_j) (number i v at_i ∙ same ∙ sym (number j w at_j)))
+          absurd (has.numbers_differ i j v lt (slice_get_within block j w at_j)
+          (number i v at_i ∙ same ∙ sym (number j w at_j)))
       by_order (inr (inr lt)) =
-          absurd (has.numbers_differ j i v lt (slice_get_within block i v at_i) (number j w at_j ∙ sym same ∙ sym (number i v at_i)))
+          absurd (has.numbers_differ j i v lt (slice_get_within block i v at_i)
+          (number j w at_j ∙ sym same ∙ sym (number i v at_i)))
 
   pub same_standing : (i j : ℕ) (v w : Value) → At block i v → At block j w → v.id.0 ≡ w.id.0 → v ≡ w
   same_standing i j v w at_i at_j same =
@@ -83,7 +92,8 @@ module _ (block : List Value) (has : HasItems block) where
   -- the first argument is the number of the call at this index
   abbrev pub Names : List ValueId → ℕ → Type 0
   Names args c =
-      (a : ValueId) × (rest : List ValueId) × (args ≡ a ∷ rest) × (x : Value) × At block c x × (x.id.0 ≡ a.0) × (is_call x.op ≡ true)
+      (a : ValueId) × (rest : List ValueId) × (args ≡ a ∷ rest) × (x : Value) × At block c x × (x.id.0 ≡ a.0)
+      × (is_call x.op ≡ true)
 
   pub names_from : (args : List ValueId) (c : ℕ) → call_named block args ≡ Some c → Names args c
   names_from [] c h = cc
@@ -94,8 +104,16 @@ module _ (block : List Value) (has : HasItems block) where
       by_call i is false e h = cc
       by_call i is true e h =
           let same : i ≡ c = cc in
-          let stands : (v : Value) × At block i v × (v.id.0 ≡ a.0) = index_stands i a is in
-          (a, rest, refl, stands.0, subst (λ k. At block k stands.0) same stands.1, stands.2, sym (ap calls stands.1) ∙ e)
+          let stands : (v : Value) × At block i v × (v.id.0 ≡ a.0) = index_stands i a is in (
+            a,
+            rest,
+            refl,
+            stands.0,
+            subst (λ k. At block k stands.0) same stands.1,
+            stands.2,
+            sym (ap calls stands.1)
+                ∙ e,
+          )
 
       by_index : (o : Option ℕ) → index_of block a ≡ o → where_call block o ≡ Some c → Names (a ∷ rest) c
       by_index None is h = cc
@@ -123,17 +141,20 @@ module _ (block : List Value) (has : HasItems block) where
       by_follower no_phi true e h = by_name no_phi e (call_named block v.args) refl h
 
       by_phi : (b : Bool) → is_phi v.op ≡ b
-          → (if b then None else (if is_follower v.op then option_or (call_named block v.args) (Some i) else Some i)) ≡ Some o → Owns block o i v
+          → (if b then None else (if is_follower v.op then option_or (call_named block v.args) (Some i) else Some i))
+          ≡ Some o → Owns block o i v
       by_phi true e h = cc
       by_phi false e h = by_follower e (is_follower v.op) refl h
 
   pub owner_itself : (i : ℕ) (v : Value) → is_phi v.op ≡ false
       → (is_follower v.op ≡ false) ⊎ (call_named block v.args ≡ None) → owner_of block i v ≡ Some i
   owner_itself i v no_phi (inl no_follower) =
-      ap (λ b. if b then None else (if is_follower v.op then option_or (call_named block v.args) (Some i) else Some i)) no_phi
+      ap (λ b. if b then None else (if is_follower v.op then option_or (call_named block v.args) (Some i) else Some i))
+      no_phi
       ∙ ap (λ b. if b then option_or (call_named block v.args) (Some i) else Some i) no_follower
   owner_itself i v no_phi (inr none) =
-      ap (λ b. if b then None else (if is_follower v.op then option_or (call_named block v.args) (Some i) else Some i)) no_phi
+      ap (λ b. if b then None else (if is_follower v.op then option_or (call_named block v.args) (Some i) else Some i))
+      no_phi
       ∙ by_follower (is_follower v.op)
     where
       by_follower : (b : Bool) → (if b then option_or (call_named block v.args) (Some i) else Some i) ≡ Some i
@@ -143,7 +164,8 @@ module _ (block : List Value) (has : HasItems block) where
   pub owner_call : (i c : ℕ) (v : Value) → is_follower v.op ≡ true → call_named block v.args ≡ Some c
       → owner_of block i v ≡ Some c
   owner_call i c v follows named =
-      ap (λ b. if b then None else (if is_follower v.op then option_or (call_named block v.args) (Some i) else Some i)) (follower_no_phi v.op follows)
+      ap (λ b. if b then None else (if is_follower v.op then option_or (call_named block v.args) (Some i) else Some i))
+      (follower_no_phi v.op follows)
       ∙ ap (λ b. if b then option_or (call_named block v.args) (Some i) else Some i) follows
       ∙ ap (λ o. option_or o (Some i)) named
 
@@ -155,8 +177,14 @@ module _ (block : List Value) (has : HasItems block) where
   owner_is_item o i v at h = by_owns (owns_from o i v h)
     where
       by_owns : Owns block o i v → (x : Value) × IsItem block o x
-      by_owns (itself same no_phi own) =
-          (v, record { at = subst (λ k. At block k v) (sym same) at; own = subst (λ k. owner_of block k v ≡ Some k) (sym same) (owner_itself i v no_phi own) })
+      by_owns (itself same no_phi own) = (
+        v,
+        record {
+          at = subst (λ k. At block k v) (sym same) at;
+          own = subst (λ k. owner_of block k v ≡ Some k)
+              (sym same) (owner_itself i v no_phi own);
+        },
+      )
       by_owns (of_call follows named) =
           let names : Names v.args o = names_from v.args o named in
           (names.3, record { at = names.4; own = call_owner o names.3 names.6 })
@@ -195,7 +223,8 @@ module _ (block : List Value) (has : HasItems block) where
 
   pub select_arg : (i : ℕ) (w : Value) → At block i w → is_follower w.op ≡ true → (a : ValueId) × (w.args ≡ a ∷ [])
   select_arg i w at follows =
-      one_arg w.args (all_at (λ (v : Value). is_follower v.op ≡ true → length v.args ≡ 1) block i w has.selects_one at follows)
+      one_arg w.args (all_at (λ (v : Value). is_follower v.op ≡ true → length v.args ≡ 1) block i w has.selects_one at
+      follows)
 
   -- a select of the value of this number has it as its one argument
   pub selects_only : (i : ℕ) (w : Value) (id : ValueId) → At block i w → selects id w ≡ true
@@ -217,7 +246,8 @@ module _ (block : List Value) (has : HasItems block) where
       → id.0 ≡ a.0 → selects id w ≡ true
   from_selects w id a rest follows args same =
       and_from (is_follower w.op) (list_any (same_value id) w.args) follows
-      (ap (list_any (same_value id)) args ∙ or_left (same_value id a) (list_any (same_value id) rest) (equal_numbers id a same))
+      (ap (list_any (same_value id)) args ∙ or_left (same_value id a) (list_any (same_value id) rest)
+      (equal_numbers id a same))
 
   select_owner : (i : ℕ) (x : Value) (k : ℕ) (w : Value) → At block i x → is_call x.op ≡ true → At block k w
       → selects x.id w ≡ true → owner_of block k w ≡ Some i
@@ -245,7 +275,8 @@ module _ (block : List Value) (has : HasItems block) where
       by_op false e h = cc
       by_op true e h =
           from_found e (find_any (λ w. selects x.id w && same_value w.id a) block
-          (sym (any_by_number (λ v. same_value v.id a) (filter (selects x.id) block) ∙ any_filter (λ v. same_value v.id a) (selects x.id) block) ∙ h))
+          (sym (any_by_number (λ v. same_value v.id a) (filter (selects x.id) block)
+          ∙ any_filter (λ v. same_value v.id a) (selects x.id) block) ∙ h))
 
       by_place : (same_value x.id a ≡ true) ⊎ (follows_with x (is_call x.op) a ≡ true) → owner block a ≡ Some i
       by_place (inl here) = owner_found i x a is.at (same_numbers x.id a here) ∙ is.own
@@ -262,14 +293,17 @@ module _ (block : List Value) (has : HasItems block) where
           → follows_with x (is_call x.op) a ≡ true
       behind k w at same call h =
           ap (λ b. follows_with x b a) call
-          ∙ (any_by_number (λ v. same_value v.id a) (filter (selects x.id) block) ∙ any_filter (λ v. same_value v.id a) (selects x.id) block)
-          ∙ any_at (λ v. selects x.id v && same_value v.id a) block k w at (and_from (selects x.id w) (same_value w.id a) h (equal_numbers w.id a same))
+          ∙ (any_by_number (λ v. same_value v.id a) (filter (selects x.id) block)
+          ∙ any_filter (λ v. same_value v.id a) (selects x.id) block)
+          ∙ any_at (λ v. selects x.id v && same_value v.id a) block k w at
+          (and_from (selects x.id w) (same_value w.id a) h (equal_numbers w.id a same))
 
       by_owns : (k : ℕ) (w : Value) → At block k w → w.id.0 ≡ a.0 → Owns block i k w
           → has_value (item block x) a ≡ true
       by_owns k w at same (itself here no_phi own) =
           let one : x ≡ w = same_at block i x w is.at (ap (slice_get block) here ∙ at) in
-          or_left (same_value x.id a) (follows_with x (is_call x.op) a) (equal_numbers x.id a (ap (λ (v : Value). v.id.0) one ∙ same))
+          or_left (same_value x.id a) (follows_with x (is_call x.op) a)
+          (equal_numbers x.id a (ap (λ (v : Value). v.id.0) one ∙ same))
       by_owns k w at same (of_call follows named) =
           let names : Names w.args i = names_from w.args i named in
           let one : names.3 ≡ x = same_at block i names.3 x names.4 is.at in
@@ -292,8 +326,14 @@ module _ (block : List Value) (has : HasItems block) where
       let there : (k : ℕ) × At (leaders block) k x = contains_at (leaders block) x h in
       let kept : (i : ℕ) × At block i x × (leader_test x ≡ true) = filter_at leader_test block there.0 x there.1 in
       let parts : (not (is_phi x.op) ≡ true) × (not (follows_a_call block x) ≡ true) =
-      and_parts (not (is_phi x.op)) (not (follows_a_call block x)) kept.2 in
-      (kept.0, record { at = kept.1; own = owner_itself kept.0 x (not-true (is_phi x.op) parts.0) (by_follower kept.0 kept.1 (not-true (follows_a_call block x) parts.1) (is_follower x.op) refl) })
+      and_parts (not (is_phi x.op)) (not (follows_a_call block x)) kept.2 in (
+        kept.0,
+        record {
+          at = kept.1;
+          own = owner_itself kept.0 x (not-true (is_phi x.op) parts.0)
+              (by_follower kept.0 kept.1 (not-true (follows_a_call block x) parts.1) (is_follower x.op) refl);
+        },
+      )
     where
       no_call : (i : ℕ) → At block i x → follows_a_call block x ≡ false → is_follower x.op ≡ true → (c : ℕ)
           → call_named block x.args ≡ Some c → ⊥
@@ -301,7 +341,8 @@ module _ (block : List Value) (has : HasItems block) where
           let names : Names x.args c = names_from x.args c named in
           both_ways (follows_a_call block x) none
           (any_at (λ y. is_call y.op && selects y.id x) block c names.3 names.4
-          (and_from (is_call names.3.op) (selects names.3.id x) names.6 (from_selects x names.3.id names.0 names.1 follows names.2 names.5)))
+          (and_from (is_call names.3.op) (selects names.3.id x) names.6
+          (from_selects x names.3.id names.0 names.1 follows names.2 names.5)))
 
       by_name : (i : ℕ) → At block i x → follows_a_call block x ≡ false → is_follower x.op ≡ true → (o : Option ℕ)
           → call_named block x.args ≡ o → call_named block x.args ≡ None
@@ -316,7 +357,8 @@ module _ (block : List Value) (has : HasItems block) where
   pub item_leader : (i : ℕ) (x : Value) → IsItem block i x → Contains (leaders block) x
   item_leader i x is =
       let kept : (k : ℕ) × At (leaders block) k x = at_filter leader_test block i x is.at
-      (and_from (not (is_phi x.op)) (not (follows_a_call block x)) (not_from_false (is_phi x.op) (no_phi (owns_from i i x is.own)))
+      (and_from (not (is_phi x.op)) (not (follows_a_call block x))
+      (not_from_false (is_phi x.op) (no_phi (owns_from i i x is.own)))
       (not_from_false (follows_a_call block x) (false_from_ne_true (follows_a_call block x) follows_none))) in
       at_contains (leaders block) kept.0 x kept.1
     where

@@ -1,15 +1,23 @@
--- An item stands before another one where an edge leads from it to the other, or through a memory that it reads and the other changes.
-use Rattle.std.proofs.Common.{◌≡◌, ℕ, ◌+◌, ◌⊎◌, inl, inr, Bool, true, false, not, ◌&&◌, ◌||◌, if◌then◌else◌, List, [], ◌∷◌, filter, Option, None, Some, refl, subst, sym, ap, ◌∙◌, arith}
+-- An item stands before another one where an edge leads from it to the other, or through a memory that it reads and the
+-- other changes.
+use Rattle.std.proofs.Common.{◌≡◌, ℕ, ◌+◌, ◌⊎◌, inl, inr, Bool, true, false, not, ◌&&◌, ◌||◌, if◌then◌else◌, List, []}
+use Rattle.std.proofs.Common.{◌∷◌, filter, Option, None, Some, refl, subst, sym, ap, ◌∙◌, arith}
 use Rattle.std.specs.List.{list_any}
-use Rattle.std.proofs.lemmas.Bool.{and_from, and_parts, both_ways, not-true, not_from_false, or_cases, or_left, or_right}
+use Rattle.std.proofs.lemmas.Bool.{and_from, and_parts, both_ways, not-true, not_from_false, or_cases, or_left}
+use Rattle.std.proofs.lemmas.Bool.{or_right}
 use Rattle.gossa_base.specs.declared.ids.ValueId.{ValueId}
 use Rattle.ssa_ir.specs.declared.func.Value.{Value}
-use Rattle.ssa_ir.specs.FirstOrder.{by_number, changes_memory, has_value, is_call, is_follower, item, memory_taken, readers_before, reads_memory, same_memory, same_value, selects}
-use Rattle.ssa_check.specs.Cycles.{names_its_call, stands_before, takes_of, takes_one}
-use Rattle.ssa_check.specs.Items.{HasItems, first_from, first_of, first_taker, is_index, owner, takes_memory}
+use Rattle.ssa_ir.specs.FirstOrder.{by_number, has_value, item, memory_taken, readers_before, same_memory, same_value}
+use Rattle.ssa_ir.specs.FirstOrder.{selects}
+use Rattle.ssa_ir.specs.OpKinds.{changes_memory, is_call, is_follower, reads_memory}
+use Rattle.ssa_ir.specs.Cycles.{names_its_call, stands_before, takes_of, takes_one}
+use Rattle.ssa_check.specs.Items.{HasItems, first_of, first_taker, is_index, owner, takes_memory}
+use Rattle.gossa_base.specs.Lists.{first_from}
 use Rattle.ssa_check.proofs.ItemEdges.{Takes, TakesFirst, is_index_some, some_is_index}
-use Rattle.ssa_check.proofs.ItemLists.{At, Found, any_at, any_by_number, any_filter, find_any, first_at, first_some, same_at}
-use Rattle.ssa_check.proofs.ItemOwners.{IsItem, call_no_follower, equal_numbers, item_owner, owner_has, same_numbers, same_standing, selects_only}
+use Rattle.ssa_check.proofs.StandingLemmas.{any_by_number}
+use Rattle.gossa_base.proofs.ListPlaces.{At, Found, any_at, any_filter, find_any, first_at, first_some, same_at}
+use Rattle.ssa_check.proofs.ItemOwners.{IsItem, call_no_follower, equal_numbers, item_owner, owner_has, same_numbers}
+use Rattle.ssa_check.proofs.ItemOwners.{same_standing, selects_only}
 
 -- ---- memories
 
@@ -29,7 +37,8 @@ pub taken_first : (block : List Value) (i : ℕ) (x : Value) (m : ValueId) → A
     → memory_taken x.op x.args ≡ Some m → (f : ℕ) × TakesFirst block x f
 taken_first block i x m at takes =
     let some : (f : ℕ) × (first_from (takes_memory m) 0 block ≡ Some f) =
-    first_some (takes_memory m) 0 block i x at (memories_same (memory_taken x.op x.args) (Some m) m m takes refl refl) in
+    first_some (takes_memory m) 0 block i x at
+    (memories_same (memory_taken x.op x.args) (Some m) m m takes refl refl) in
     (some.0, ap (first_of block) takes ∙ some.1)
 
 -- what is first taken at one index is one memory
@@ -49,9 +58,11 @@ first_taken block x f h = by_taken (memory_taken x.op x.args) refl h
 pub same_first : (block : List Value) (x y : Value) (f : ℕ) → TakesFirst block x f → TakesFirst block y f
     → same_memory (memory_taken x.op x.args) (memory_taken y.op y.args) ≡ true
 same_first block x y f first_x first_y =
-    let of_x : (m : ValueId) × (memory_taken x.op x.args ≡ Some m) × ((w : Value) × At block f w × (takes_memory m w ≡ true)) =
+    let of_x : (m : ValueId) × (memory_taken x.op x.args ≡ Some m)
+    × ((w : Value) × At block f w × (takes_memory m w ≡ true)) =
     first_taken block x f first_x in
-    let of_y : (n : ValueId) × (memory_taken y.op y.args ≡ Some n) × ((w : Value) × At block f w × (takes_memory n w ≡ true)) =
+    let of_y : (n : ValueId) × (memory_taken y.op y.args ≡ Some n)
+    × ((w : Value) × At block f w × (takes_memory n w ≡ true)) =
     first_taken block y f first_y in
     let one : of_x.2.0 ≡ of_y.2.0 = same_at block f of_x.2.0 of_y.2.0 of_x.2.1 of_y.2.1 in
     let w : Value = of_y.2.0 in
@@ -74,7 +85,8 @@ same_taker block m n same = ap (λ (k : ValueId). first_taker block k) (λ i. re
 pub first_same : (block : List Value) (x y : Value) (f : ℕ) → TakesFirst block x f
     → same_memory (memory_taken x.op x.args) (memory_taken y.op y.args) ≡ true → TakesFirst block y f
 first_same block x y f first same =
-    let ms : (m : ValueId) × (n : ValueId) × (memory_taken x.op x.args ≡ Some m) × (memory_taken y.op y.args ≡ Some n) × (m.0 ≡ n.0) =
+    let ms : (m : ValueId) × (n : ValueId) × (memory_taken x.op x.args ≡ Some m) × (memory_taken y.op y.args ≡ Some n)
+    × (m.0 ≡ n.0) =
     same_memories (memory_taken x.op x.args) (memory_taken y.op y.args) same in
     ap (first_of block) ms.3 ∙ sym (same_taker block ms.0 ms.1 ms.4) ∙ sym (ap (first_of block) ms.2) ∙ first
 
@@ -83,7 +95,8 @@ first_same block x y f first same =
 module _ (block : List Value) (has : HasItems block) where
   abbrev behind : Value → Value → Bool → Bool
   behind x y b =
-      list_any (λ w. list_any (takes_one block x y w) w.args) (if b then by_number (filter (selects y.id) block) else [])
+      list_any (λ w. list_any (takes_one block x y w) w.args)
+      (if b then by_number (filter (selects y.id) block) else [])
 
   -- a call names no call
   own_name : (y : Value) (a : ValueId) → names_its_call y y a ≡ false
@@ -107,13 +120,16 @@ module _ (block : List Value) (has : HasItems block) where
           let one : (takes_one block x y w a || false) ≡ true =
           sym (ap (list_any (takes_one block x y w)) only.1.1) ∙ h in
           let named : names_its_call y w a ≡ true =
-          and_from (is_call y.op && selects y.id w) (same_value y.id a) (and_from (is_call y.op) (selects y.id w) call sel) (equal_numbers y.id a only.1.2) in
+          and_from (is_call y.op && selects y.id w) (same_value y.id a)
+          (and_from (is_call y.op) (selects y.id w) call sel) (equal_numbers y.id a only.1.2) in
           from_or a named (or_cases (takes_one block x y w a) false one)
         where
           from_or : (a : ValueId) → names_its_call y w a ≡ true → (takes_one block x y w a ≡ true) ⊎ (false ≡ true)
               → ⊥
           from_or a named (inl takes) =
-              both_ways (names_its_call y w a) (not-true (names_its_call y w a) (and_parts (has_value (item block x) a) (not (names_its_call y w a)) takes).1) named
+              both_ways (names_its_call y w a)
+              (not-true (names_its_call y w a)
+              (and_parts (has_value (item block x) a) (not (names_its_call y w a)) takes).1) named
           from_or a named (inr none) = cc
 
       from_found : is_call y.op ≡ true → Found (λ w. selects y.id w && list_any (takes_one block x y w) w.args) block
@@ -137,7 +153,8 @@ module _ (block : List Value) (has : HasItems block) where
       from_found (k, a, at, takes) =
           let part : has_value (item block x) a ≡ true =
           (and_parts (has_value (item block x) a) (not (names_its_call y y a)) takes).0 in
-          any_at (λ b. is_index (owner block b) i) y.args k a at (some_is_index (owner block a) i (item_owner block has i x a is part))
+          any_at (λ b. is_index (owner block b) i) y.args k a at
+          (some_is_index (owner block a) i (item_owner block has i x a is part))
 
       by_place : (list_any (takes_one block x y y) y.args ≡ true) ⊎ (behind x y (is_call y.op) ≡ true)
           → Takes block i y
@@ -146,13 +163,15 @@ module _ (block : List Value) (has : HasItems block) where
 
   from_takes : (i : ℕ) (x y : Value) → IsItem block i x → Takes block i y → takes_of block x y ≡ true
   from_takes i x y is h =
-      or_left (list_any (takes_one block x y y) y.args) (behind x y (is_call y.op)) (from_found (find_any (λ a. is_index (owner block a) i) y.args h))
+      or_left (list_any (takes_one block x y y) y.args) (behind x y (is_call y.op))
+      (from_found (find_any (λ a. is_index (owner block a) i) y.args h))
     where
       from_found : Found (λ a. is_index (owner block a) i) y.args → list_any (takes_one block x y y) y.args ≡ true
       from_found (k, a, at, is_own) =
           any_at (takes_one block x y y) y.args k a at
           (and_from (has_value (item block x) a) (not (names_its_call y y a))
-          (owner_has block has i x a is (is_index_some (owner block a) i is_own)) (not_from_false (names_its_call y y a) (own_name y a)))
+          (owner_has block has i x a is (is_index_some (owner block a) i is_own))
+          (not_from_false (names_its_call y y a) (own_name y a)))
 
   -- an item reads the memory that another one changes
   abbrev pub ReadsBefore : Value → Value → Type 0
@@ -178,7 +197,8 @@ module _ (block : List Value) (has : HasItems block) where
           and_parts (reader_test y r) (same_value r.id x.id) passes in
           let one : r ≡ x = same_standing block has k i r x at is.at (same_numbers r.id x.id parts.1) in
           let reads : reader_test y x ≡ true = subst (λ v. reader_test y v ≡ true) one parts.0 in
-          let both : (reads_memory x.op ≡ true) × (same_memory (memory_taken x.op x.args) (memory_taken y.op y.args) ≡ true) =
+          let both : (reads_memory x.op ≡ true)
+          × (same_memory (memory_taken x.op x.args) (memory_taken y.op y.args) ≡ true) =
           and_parts (reads_memory x.op) (same_memory (memory_taken x.op x.args) (memory_taken y.op y.args)) reads in
           (changes, both.0, both.1)
 
@@ -197,14 +217,17 @@ module _ (block : List Value) (has : HasItems block) where
   stands_from i x y is h =
       by_place (or_cases (takes_of block x y) (changes_memory y.op && has_value (readers_before block y) x.id) h)
     where
-      by_place : (takes_of block x y ≡ true) ⊎ ((changes_memory y.op && has_value (readers_before block y) x.id) ≡ true) → Takes block i y ⊎ ReadsBefore x y
+      by_place : (takes_of block x y ≡ true) ⊎ ((changes_memory y.op && has_value (readers_before block y) x.id) ≡ true)
+          → Takes block i y ⊎ ReadsBefore x y
       by_place (inl takes) = inl (takes_from i x y is takes)
       by_place (inr reads) = inr (reads_from i x y is reads)
 
   pub stands_by_taking : (i : ℕ) (x y : Value) → IsItem block i x → Takes block i y → stands_before block x y ≡ true
   stands_by_taking i x y is takes =
-      or_left (takes_of block x y) (changes_memory y.op && has_value (readers_before block y) x.id) (from_takes i x y is takes)
+      or_left (takes_of block x y) (changes_memory y.op && has_value (readers_before block y) x.id)
+      (from_takes i x y is takes)
 
   pub stands_by_reading : (i : ℕ) (x y : Value) → IsItem block i x → ReadsBefore x y → stands_before block x y ≡ true
   stands_by_reading i x y is reads =
-      or_right (takes_of block x y) (changes_memory y.op && has_value (readers_before block y) x.id) (from_reads i x y is reads)
+      or_right (takes_of block x y) (changes_memory y.op && has_value (readers_before block y) x.id)
+      (from_reads i x y is reads)

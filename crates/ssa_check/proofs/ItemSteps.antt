@@ -1,5 +1,7 @@
 -- One more value in the loops over a block: the first takers of memories, the edges and the names so far.
-use Rattle.std.proofs.Common.{◌≡◌, ℕ, zero, suc, ◌+◌, ◌==◌, ◌<◌, Bool, true, false, if◌then◌else◌, List, [], ◌∷◌, ◌++◌, ◌-◌, length, get_or, take, drop, slice_get, Bor, Option, None, Some, is_some, option_copied, refl, sym, ap, ◌∙◌, arith}
+use Rattle.std.proofs.Common.{◌≡◌, ℕ, zero, suc, ◌+◌, ◌==◌, ◌<◌, Bool, true, false, if◌then◌else◌, List, [], ◌∷◌, ◌++◌}
+use Rattle.std.proofs.Common.{◌-◌, length, get_or, take, drop, slice_get, Bor, Option, None, Some, is_some}
+use Rattle.std.proofs.Common.{option_copied, refl, sym, ap, ◌∙◌, arith}
 use Rattle.std.specs.List.{last_or}
 use Rattle.std.specs.Option.{option_or}
 use Rattle.std.proofs.lemmas.Bool.{eqb-true}
@@ -10,46 +12,17 @@ use Rattle.ssa_ir.specs.declared.func.Value.{Value}
 use Rattle.ssa_ir.specs.FirstOrder.{memory_taken, same_memory}
 use Rattle.graphs.specs.declared.graph.Edge.{Edge}
 use Rattle.graphs.specs.declared.loops.Named.{Named}
-use Rattle.ssa_check.proofs.ItemLists.{At, first_at}
-use Rattle.ssa_check.specs.Items.{block_edges, block_names, edges_from, first_from, first_taker, name_of, names_from, owner_of, takes_memory, value_edges}
-
--- ---- the first that passes
-
-abbrev pub only_where : Bool → ℕ → Option ℕ
-only_where true i = Some i
-only_where false i = None
-
-first_push : {X : Type 0} (test : X → Bool) (k : ℕ) (xs : List X) (x : X)
-    → first_from test k (xs ++ x ∷ []) ≡ option_or (first_from test k xs) (only_where (test x) (k + length xs))
-first_push test k [] x = by_test (test x)
-  where
-    by_test : (b : Bool) → (if b then Some k else None) ≡ only_where b (k + zero)
-    by_test true = let same : k ≡ k + zero = omega arith in ap Some same
-    by_test false = refl
-first_push {X} test k (y ∷ xs) x = by_test (test y) (first_push test (suc k) xs x)
-  where
-    by_test : (b : Bool)
-        → first_from test (suc k) (xs ++ x ∷ []) ≡ option_or (first_from test (suc k) xs) (only_where (test x) (suc k + length xs))
-        → (if b then Some k else first_from test (suc k) (xs ++ x ∷ []))
-        ≡ option_or (if b then Some k else first_from test (suc k) xs) (only_where (test x) (k + suc (length xs)))
-    by_test true rest = refl
-    by_test false rest =
-        let same : suc k + length xs ≡ k + suc (length xs) = omega arith in
-        rest ∙ ap (λ n. option_or (first_from test (suc k) xs) (only_where (test x) n)) same
-
--- the first of one more element
-pub first_more : {X : Type 0} (test : X → Bool) (xs : List X) (i : ℕ) (d : X) → i < length xs
-    → first_from test 0 (take (i + 1) xs) ≡ option_or (first_from test 0 (take i xs)) (only_where (test (get_or xs i d)) i)
-first_more test xs i d within =
-    let n : 0 + length (take i xs) ≡ i = omega (arith, length-take-le i xs (omega (arith, within))) in
-    ap (first_from test 0) (take_more xs i d within) ∙ first_push test 0 (take i xs) (get_or xs i d)
-    ∙ ap (λ k. option_or (first_from test 0 (take i xs)) (only_where (test (get_or xs i d)) k)) n
+use Rattle.gossa_base.proofs.ListPlaces.{At, first_at, first_more, only_where}
+use Rattle.ssa_check.specs.Items.{block_edges, block_names, edges_from, first_taker, name_of, names_from, owner_of}
+use Rattle.ssa_check.specs.Items.{takes_memory, value_edges}
+use Rattle.gossa_base.specs.Lists.{first_from}
 
 -- ---- edges and names
 
 pub edges_more : (block : List Value) (edges : List Edge) (i : ℕ) (d : Value) → i < length block
     → edges ++ edges_from block i (drop i block) ≡ block_edges block
-    → (edges ++ value_edges block i (get_or block i d)) ++ edges_from block (i + 1) (drop (i + 1) block) ≡ block_edges block
+    → (edges ++ value_edges block i (get_or block i d)) ++ edges_from block (i + 1) (drop (i + 1) block)
+    ≡ block_edges block
 edges_more block edges i d within so_far =
     let next : i + 1 ≡ suc i = omega arith in
     append_assoc edges (value_edges block i (get_or block i d)) (edges_from block (i + 1) (drop (i + 1) block))
@@ -58,11 +31,14 @@ edges_more block edges i d within so_far =
 
 pub names_more : (block : List Value) (names : List Named) (i : ℕ) (d : Value) → i < length block
     → names ++ names_from block i (drop i block) ≡ block_names block
-    → (names ++ name_of (owner_of block i (get_or block i d)) (get_or block i d)) ++ names_from block (i + 1) (drop (i + 1) block) ≡ block_names block
+    → (names ++ name_of (owner_of block i (get_or block i d)) (get_or block i d))
+    ++ names_from block (i + 1) (drop (i + 1) block) ≡ block_names block
 names_more block names i d within so_far =
     let next : i + 1 ≡ suc i = omega arith in
-    append_assoc names (name_of (owner_of block i (get_or block i d)) (get_or block i d)) (names_from block (i + 1) (drop (i + 1) block))
-    ∙ ap (λ k. names ++ (name_of (owner_of block i (get_or block i d)) (get_or block i d) ++ names_from block k (drop (i + 1) block))) next
+    append_assoc names (name_of (owner_of block i (get_or block i d)) (get_or block i d))
+    (names_from block (i + 1) (drop (i + 1) block))
+    ∙ ap (λ k. names ++ (name_of (owner_of block i (get_or block i d)) (get_or block i d)
+    ++ names_from block k (drop (i + 1) block))) next
     ∙ ap (λ rest. names ++ names_from block i rest) (sym (drop_more block i d within)) ∙ so_far
 
 -- ---- takers
@@ -83,7 +59,8 @@ pub no_taker : (values : List Value) (i : ℕ) (d : Value) (m : ValueId) (before
 no_taker values i d m before within none old =
     let test : takes_memory m (get_or values i d) ≡ false = ap (λ o. same_memory o (Some m)) (sym none) in
     old ∙ sym (first_more (takes_memory m) values i d within
-    ∙ ap (λ b. option_or (first_taker (take i values) m) (only_where b i)) test ∙ or_none (first_taker (take i values) m))
+    ∙ ap (λ b. option_or (first_taker (take i values) m) (only_where b i)) test
+    ∙ or_none (first_taker (take i values) m))
   where
     or_none : (o : Option ℕ) → option_or o None ≡ o
     or_none None = refl
@@ -108,7 +85,8 @@ old_taker values i d m n before k within taken has old =
 
     by_test : (b : Bool) → (n.0 == m.0) ≡ b
         → option_or (first_taker (take i values) m) (only_where b i) ≡ first_taker (take i values) m
-    by_test true e = or_some (first_taker (take i values) m) true k (sym (same_taker (take i values) n m (eqb-true n.0 m.0 e)) ∙ has)
+    by_test true e =
+        or_some (first_taker (take i values) m) true k (sym (same_taker (take i values) n m (eqb-true n.0 m.0 e)) ∙ has)
     by_test false e = or_none (first_taker (take i values) m)
 
 -- a value whose memory has no taker is its first
@@ -117,7 +95,8 @@ pub new_taker : (values : List Value) (i : ℕ) (d : Value) (m n : ValueId) (bef
     → before ≡ first_taker (take i values) m
     → (if n.0 == m.0 then Some i else before) ≡ first_taker (take (i + 1) values) m
 new_taker values i d m n before within taken none old =
-    by_test (n.0 == m.0) refl ∙ ap (λ o. option_or (first_taker (take i values) m) (only_where (same_memory o (Some m)) i)) taken
+    by_test (n.0 == m.0) refl ∙ ap
+    (λ o. option_or (first_taker (take i values) m) (only_where (same_memory o (Some m)) i)) taken
     ∙ sym (first_more (takes_memory m) values i d within)
   where
     or_none : (o : Option ℕ) → option_or o None ≡ o
@@ -126,24 +105,6 @@ new_taker values i d m n before within taken none old =
 
     by_test : (b : Bool) → (n.0 == m.0) ≡ b
         → (if b then Some i else before) ≡ option_or (first_taker (take i values) m) (only_where b i)
-    by_test true e = ap (λ o. option_or o (Some i)) (sym (sym (same_taker (take i values) n m (eqb-true n.0 m.0 e)) ∙ none))
+    by_test true e =
+        ap (λ o. option_or o (Some i)) (sym (sym (same_taker (take i values) n m (eqb-true n.0 m.0 e)) ∙ none))
     by_test false e = old ∙ sym (or_none (first_taker (take i values) m))
-
--- ---- what calls of std answer
-
-last_from : {X : Type 0} (x : X) (xs : List X) → last_or (Some x) xs ≡ slice_get (x ∷ xs) (length xs)
-last_from x [] = refl
-last_from x (y ∷ xs) = last_from y xs
-
--- the last element
-pub last_is : {X : Type 0} (xs : List X) → slice_get xs (length xs - 1) ≡ last_or None xs
-last_is [] = refl
-last_is (x ∷ xs) = let same : suc (length xs) - 1 ≡ length xs = omega arith in ap (slice_get (x ∷ xs)) same ∙ sym (last_from x xs)
-
-pub none_copied : {X : Type 0} (o : Option (Bor X)) → is_some o ≡ false → option_copied o ≡ None
-none_copied None h = refl
-none_copied (Some x) h = cc
-
-pub some_copied : {X : Type 0} (o : Option (Bor X)) → is_some o ≡ true → (x : X) × (option_copied o ≡ Some x)
-some_copied None h = cc
-some_copied (Some x) h = (x.now, refl)

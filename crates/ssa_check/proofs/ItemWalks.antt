@@ -1,24 +1,31 @@
--- Cycles of items are paths of the block's graph that come back, and its least name on one is the least number on a cycle.
-use Rattle.std.proofs.Common.{◌≡◌, ℕ, zero, suc, ◌+◌, ◌==◌, ◌<◌, ◌≤◌, ◌⊎◌, inl, inr, true, List, [], ◌∷◌, ◌++◌, length, get_or, Option, None, Some, refl, subst, sym, ap, ◌∙◌, arith}
+-- Cycles of items are paths of the block's graph that come back, and its least name on one is the least number on a
+-- cycle.
+use Rattle.std.proofs.Common.{◌≡◌, ℕ, zero, suc, ◌+◌, ◌==◌, ◌<◌, ◌≤◌, ◌⊎◌, inl, inr, true, List, [], ◌∷◌, ◌++◌, length}
+use Rattle.std.proofs.Common.{get_or, Option, None, Some, refl, subst, sym, ap, ◌∙◌, arith}
 use Rattle.std.specs.List.{All, Any, Contains}
 use Rattle.std.proofs.lemmas.Bool.{and_from, eq-eqb}
 use Rattle.std.proofs.lemmas.List.Elements.{All-cons, All-head, All-nil, All-tail}
 use Rattle.std.proofs.lemmas.Option.{slice_get-get_or, slice_get_within}
 use Rattle.gossa_base.specs.declared.ids.ValueId.{ValueId}
 use Rattle.ssa_ir.specs.declared.func.Value.{Value}
-use Rattle.ssa_ir.specs.FirstOrder.{memory_taken, reads_memory}
+use Rattle.ssa_ir.specs.FirstOrder.{memory_taken}
+use Rattle.ssa_ir.specs.OpKinds.{reads_memory}
 use Rattle.graphs.specs.declared.graph.Edge.{Edge}
 use Rattle.graphs.specs.declared.loops.Named.{Named}
-use Rattle.ssa_check.specs.Cycles.{CycleThrough, IsWalk, OnCycle, leaders, stands_before}
-use Rattle.ssa_check.specs.Items.{HasItems, IsLeast, IsOnCycle, block_edges, block_names, is_index, name_of, names_from, owner, owner_of}
+use Rattle.ssa_ir.specs.Cycles.{CycleThrough, IsWalk, OnCycle, leaders, stands_before}
+use Rattle.ssa_check.specs.Items.{HasItems, IsLeast, IsOnCycle, block_edges, block_names, is_index, name_of, names_from}
+use Rattle.ssa_check.specs.Items.{owner, owner_of}
 use Rattle.graphs.specs.Graphs.{ComesBack, graph_of, has_edge}
 use Rattle.graphs.specs.Loops.{Chosen, LeastOnLoop}
 use Rattle.graphs.specs.Paths.{IsPath, Leads}
 use Rattle.graphs.proofs.GraphLemmas.{graph_has, have_edge, is_edge}
-use Rattle.ssa_check.proofs.ItemEdges.{EdgeKind, Takes, TakesFirst, arg_edge, change_edge, edge_kind, is_index_some, read_edge}
-use Rattle.ssa_check.proofs.ItemLists.{At, Found, any_at, any_from_at, at_any, find_any}
-use Rattle.ssa_check.proofs.ItemOwners.{IsItem, item_leader, item_owner, leader_item, owner_found, owner_has, owner_is_item, owner_item, same_item}
-use Rattle.ssa_check.proofs.ItemStands.{ReadsBefore, first_same, first_taken, same_first, stands_by_reading, stands_by_taking, stands_from, taken_first, same_memories}
+use Rattle.ssa_check.proofs.ItemEdges.{EdgeKind, Takes, TakesFirst, arg_edge, change_edge, edge_kind, is_index_some}
+use Rattle.ssa_check.proofs.ItemEdges.{read_edge}
+use Rattle.gossa_base.proofs.ListPlaces.{At, Found, any_at, any_from_at, at_any, find_any}
+use Rattle.ssa_check.proofs.ItemOwners.{IsItem, item_leader, item_owner, leader_item, owner_found, owner_has}
+use Rattle.ssa_check.proofs.ItemOwners.{owner_is_item, owner_item, same_item}
+use Rattle.ssa_check.proofs.ItemStands.{ReadsBefore, first_same, first_taken, same_first, stands_by_reading}
+use Rattle.ssa_check.proofs.ItemStands.{stands_by_taking, stands_from, taken_first, same_memories}
 use Rattle.graphs.proofs.AnyLemmas.{any_none, any_here, any_later, any_cases}
 use Rattle.graphs.proofs.PathLemmas.{leads_along}
 
@@ -58,7 +65,8 @@ module _ (block : List Value) (has : HasItems block) where
       let e : Edge = get_or (block_edges block) k d in
       kind_within e.source e.target (edge_kind block e.source e.target
       (any_at (is_edge e.source e.target) (block_edges block) k e (slice_get-get_or (block_edges block) k d within)
-      (and_from (e.source == e.source) (e.target == e.target) (eq-eqb e.source e.source refl) (eq-eqb e.target e.target refl))))
+      (and_from (e.source == e.source) (e.target == e.target) (eq-eqb e.source e.source refl)
+      (eq-eqb e.target e.target refl))))
 
   abbrev pub graph : List (List ℕ)
   graph = graph_of nodes (block_edges block)
@@ -84,7 +92,13 @@ module _ (block : List Value) (has : HasItems block) where
       by_kind (inl (y, is_y, takes)) = inl (y, is_y, stands_by_taking block has u x y is takes)
       by_kind (inr (inl (z, is_z, reads, (f, first, to)))) =
           let one : z ≡ x = same_item block has u z x is_z is in
-          inr (f, to, subst (λ (w : Value). reads_memory w.op ≡ true) one reads, subst (λ (w : Value). TakesFirst block w f) one first)
+          inr (
+            f,
+            to,
+            subst (λ (w : Value). reads_memory w.op ≡ true) one reads,
+            subst
+                (λ (w : Value). TakesFirst block w f) one first,
+          )
       by_kind (inr (inr (y, is_y, changes, (f, first, from)))) = absurd (omega (arith, from, item_within u x is))
 
   from_memory : (u v : ℕ) (x : Value) → IsItem block u x → (w : ℕ) → ToMemory x w → has_edge graph w v ≡ true
@@ -107,8 +121,12 @@ module _ (block : List Value) (has : HasItems block) where
   Walk x last = (rest : List Value) × All (Contains (leaders block)) rest × IsWalk block x rest last
 
   walk_end : (x z : Value) (v : ℕ) → IsItem block v z → StandsAt x v → Walk x z
-  walk_end x z v is (y, is_y, stands) =
-      ([], All-nil (Contains (leaders block)), subst (λ (w : Value). stands_before block x w ≡ true) (same_item block has v y z is_y is) stands)
+  walk_end x z v is (y, is_y, stands) = (
+    [],
+    All-nil (Contains (leaders block)),
+    subst (λ (w : Value). stands_before block x w ≡ true)
+        (same_item block has v y z is_y is) stands,
+  )
 
   walk_on : (x z : Value) (v : ℕ) (s : StandsAt x v) → Walk s.0 z → Walk x z
   walk_on x z v (y, is_y, stands) (rest, leads, walk) =
@@ -129,7 +147,8 @@ module _ (block : List Value) (has : HasItems block) where
       by_edge on (inl stands) = walk_on x z w stands (on stands.0 stands.1)
       by_edge on (inr to) = walk_end x z last end (from_memory u last x is w to h.1)
   path_walk u x is (w ∷ v ∷ path) last z end h =
-      by_edge (λ y is_y. path_walk w y is_y (v ∷ path) last z end h.1) (λ y is_y. path_walk v y is_y path last z end h.1.1) (from_item u w x is h.0)
+      by_edge (λ y is_y. path_walk w y is_y (v ∷ path) last z end h.1)
+      (λ y is_y. path_walk v y is_y path last z end h.1.1) (from_item u w x is h.0)
     where
       by_stand : ((y : Value) → IsItem block v y → Walk y z) → StandsAt x v → Walk x z
       by_stand on stands = walk_on x z v stands (on stands.0 stands.1)
@@ -146,7 +165,8 @@ module _ (block : List Value) (has : HasItems block) where
   step_path i j x y is_x is_y h = by_place (stands_from block has i x y is_x h)
     where
       through : ReadsBefore block has x y
-          → (m : ValueId) × (n : ValueId) × (memory_taken x.op x.args ≡ Some m) × (memory_taken y.op y.args ≡ Some n) × (m.0 ≡ n.0)
+          → (m : ValueId) × (n : ValueId) × (memory_taken x.op x.args ≡ Some m) × (memory_taken y.op y.args ≡ Some n)
+          × (m.0 ≡ n.0)
           → Leads (has_edge graph) i j
       through (changes, reads, same) (m, n, of_x, of_y, number) =
           let first : (f : ℕ) × TakesFirst block x f = taken_first block i x m is_x.at of_x in
@@ -178,7 +198,8 @@ module _ (block : List Value) (has : HasItems block) where
 
   pub cycle_comes_back : (i : ℕ) (x : Value) → IsItem block i x → CycleThrough block x → ComesBack graph i
   cycle_comes_back i x is cycle =
-      walk_path i i x x is is cycle.rest (All-tail (Contains (leaders block)) x cycle.rest cycle.are_items) cycle.is_walk
+      walk_path i i x x is is cycle.rest (All-tail (Contains (leaders block)) x cycle.rest cycle.are_items)
+      cycle.is_walk
 
   pub comes_back_cycle : (i : ℕ) (x : Value) → IsItem block i x → ComesBack graph i → CycleThrough block x
   comes_back_cycle i x is back =
@@ -194,7 +215,8 @@ module _ (block : List Value) (has : HasItems block) where
   -- a value that is of an item, whose name is so
   abbrev NamedIn : (Named → Type 0) → ℕ → List Value → Type 0
   NamedIn P k values =
-      (i : ℕ) × (v : Value) × At values i v × ((o : ℕ) × (owner_of block (k + i) v ≡ Some o) × P (record { node = o; number = v.id.0 }))
+      (i : ℕ) × (v : Value) × At values i v
+      × ((o : ℕ) × (owner_of block (k + i) v ≡ Some o) × P (record { node = o; number = v.id.0 }))
 
   named_later : (P : Named → Type 0) (k : ℕ) (v : Value) (values : List Value) → NamedIn P (suc k) values
       → NamedIn P k (v ∷ values)
@@ -240,7 +262,8 @@ module _ (block : List Value) (has : HasItems block) where
       (subst (λ (x : Value). P (record { node = o; number = x.id.0 })) (sym one) p))
   at_names P k (w ∷ values) (suc i) v o at own p =
       let same : k + suc i ≡ suc k + i = omega arith in
-      by_owner (owner_of block k w) (at_names P (suc k) values i v o at (subst (λ j. owner_of block j v ≡ Some o) same own) p)
+      by_owner (owner_of block k w)
+      (at_names P (suc k) values i v o at (subst (λ j. owner_of block j v ≡ Some o) same own) p)
     where
       by_owner : (q : Option ℕ) → Any P (names_from block (suc k) values)
           → Any P (name_of q w ++ names_from block (suc k) values)
@@ -252,18 +275,22 @@ module _ (block : List Value) (has : HasItems block) where
   pub names_within : All (λ (x : Named). x.node < nodes) (block_names block)
   names_within k d within =
       let x : Named = get_or (block_names block) k d in
-      let found : (i : ℕ) × (v : Value) × At block i v × ((o : ℕ) × (owner_of block (0 + i) v ≡ Some o) × (record { node = o; number = v.id.0 } ≡ x)) =
-      names_at (λ y. y ≡ x) 0 block (any_from_at (λ y. y ≡ x) (block_names block) k x (slice_get-get_or (block_names block) k d within) refl) in
+      let found : (i : ℕ) × (v : Value) × At block i v
+      × ((o : ℕ) × (owner_of block (0 + i) v ≡ Some o) × (record { node = o; number = v.id.0 } ≡ x)) =
+      names_at (λ y. y ≡ x) 0 block
+      (any_from_at (λ y. y ≡ x) (block_names block) k x (slice_get-get_or (block_names block) k d within) refl) in
       let same : 0 + found.0 ≡ found.0 = omega arith in
       let leader : (y : Value) × IsItem block found.3.0 y =
-      owner_is_item block has found.3.0 found.0 found.1 found.2 (subst (λ j. owner_of block j found.1 ≡ Some found.3.0) same found.3.1) in
+      owner_is_item block has found.3.0 found.0 found.1 found.2
+      (subst (λ j. owner_of block j found.1 ≡ Some found.3.0) same found.3.1) in
       omega (arith, item_within found.3.0 leader.0 leader.1, ap (λ (y : Named). y.node) found.3.2)
 
   -- a name on a loop is the number of a value on a cycle
   named_cycle : (x : Named) → Chosen (λ y. ComesBack graph y.node) (block_names block) x → IsOnCycle block x.number
   named_cycle x some =
       let found : (i : ℕ) × (v : Value) × At block i v
-      × ((o : ℕ) × (owner_of block (0 + i) v ≡ Some o) × (ComesBack graph o × (x ≡ record { node = o; number = v.id.0 }))) =
+      × ((o : ℕ) × (owner_of block (0 + i) v ≡ Some o)
+      × (ComesBack graph o × (x ≡ record { node = o; number = v.id.0 }))) =
       names_at (λ y. ComesBack graph y.node × (x ≡ y)) 0 block some in
       let i : ℕ = found.0 in let v : Value = found.1 in let o : ℕ = found.3.0 in
       let same : 0 + i ≡ i = omega arith in
@@ -285,7 +312,8 @@ module _ (block : List Value) (has : HasItems block) where
       at_any (λ (w : Value). (w.id.0 ≡ n) × OnCycle block w) block some in
       let i : ℕ = found.0 in let v : Value = found.1 in let cycle : OnCycle block v = found.3.1 in
       let leader : (o : ℕ) × IsItem block o cycle.leader =
-      leader_item block has cycle.leader (All-head (Contains (leaders block)) cycle.leader cycle.cycle.rest cycle.cycle.are_items) in
+      leader_item block has cycle.leader
+      (All-head (Contains (leaders block)) cycle.leader cycle.cycle.rest cycle.cycle.are_items) in
       let o : ℕ = leader.0 in
       let own : owner_of block i v ≡ Some o =
       sym (owner_found block has i v v.id found.2 refl)
@@ -293,12 +321,16 @@ module _ (block : List Value) (has : HasItems block) where
       let same : i ≡ 0 + i = omega arith in (
         o,
         at_names (λ y. ComesBack graph y.node × (record { node = o; number = n } ≡ y)) 0 block i v o found.2
-            (subst (λ j. owner_of block j v ≡ Some o) same own)
-            (cycle_comes_back o cycle.leader leader.1 cycle.cycle, (λ j. record { node = o; number = sym found.3.0 j })),
+            (subst (λ j. owner_of block j v ≡ Some o) same own) (
+              cycle_comes_back o cycle.leader leader.1 cycle.cycle,
+              (λ j. record { node = o; number = sym found.3.0 j }),
+            ),
       )
 
   pub none_least : LeastOnLoop graph (block_names block) None → IsLeast None (IsOnCycle block)
-  none_least none n is = let named : (o : ℕ) × Chosen (λ y. ComesBack graph y.node) (block_names block) (record { node = o; number = n }) = cycle_named n is in
+  none_least none n is =
+      let named : (o : ℕ) × Chosen (λ y. ComesBack graph y.node) (block_names block) (record { node = o; number = n }) =
+      cycle_named n is in
       none (record { node = named.0; number = n }) named.1
 
   pub some_least : (m : Named) → LeastOnLoop graph (block_names block) (Some m)
@@ -307,6 +339,7 @@ module _ (block : List Value) (has : HasItems block) where
     where
       least : (n : ℕ) → IsOnCycle block n → m.number ≤ n
       least n is =
-          let named : (o : ℕ) × Chosen (λ y. ComesBack graph y.node) (block_names block) (record { node = o; number = n }) =
+          let named : (o : ℕ) × Chosen (λ y. ComesBack graph y.node) (block_names block)
+          (record { node = o; number = n }) =
           cycle_named n is in
           h.1 (record { node = named.0; number = n }) named.1

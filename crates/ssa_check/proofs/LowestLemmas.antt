@@ -1,9 +1,10 @@
 -- What the lowest number of what fails is: one of the failing numbers, and no failing one is below it.
-use Rattle.std.proofs.Common.{◌≡◌, ℕ, ◌≤◌, ◌⊎◌, inl, inr, Bool, true, false, nat_lt, if◌then◌else◌, List, [], ◌∷◌, Option, None, Some, refl, arith}
+use Rattle.std.proofs.Common.{◌≡◌, ℕ, ◌≤◌, ◌⊎◌, inl, inr, Bool, true, false, nat_lt, if◌then◌else◌, List, [], ◌∷◌}
+use Rattle.std.proofs.Common.{Option, None, Some, refl, arith}
 use Rattle.std.specs.List.{Any, fold}
 use Rattle.std.proofs.lemmas.Bool.{ltb-true, ltb-false}
 use Rattle.graphs.proofs.AnyLemmas.{any_cases, any_here, any_later, any_none}
-use Rattle.ssa_check.specs.Tables.{lower_where}
+use Rattle.ssa_check.specs.Lowest.{lower_where}
 
 -- the lowest of the numbers that are so, if there is one
 abbrev pub IsLowest : Option ℕ → (ℕ → Type 0) → Type 0
@@ -11,7 +12,8 @@ IsLowest None Is = (n : ℕ) → Is n → ⊥
 IsLowest (Some m) Is = Is m × ((n : ℕ) → Is n → m ≤ n)
 
 -- the same numbers have the same lowest
-pub same_lowest : (r : Option ℕ) (A B : ℕ → Type 0) → ((n : ℕ) → A n → B n) → ((n : ℕ) → B n → A n) → IsLowest r A → IsLowest r B
+pub same_lowest : (r : Option ℕ) (A B : ℕ → Type 0) → ((n : ℕ) → A n → B n) → ((n : ℕ) → B n → A n) → IsLowest r A
+    → IsLowest r B
 same_lowest None A B there back h = λ n b. h n (back n b)
 same_lowest (Some m) A B there back h = (there m h.0, λ n b. h.1 n (back n b))
 
@@ -32,7 +34,8 @@ lower_is m n Is h false e = (inl h.0, least)
     least k (inr same) = omega (arith, same.1, ltb-false n m e)
 
 -- one more number, where it counts
-lower_where_is : (t : Bool) (r : Option ℕ) (n : ℕ) (Is : ℕ → Type 0) → IsLowest r Is → IsLowest (lower_where t r n) (With Is t n)
+lower_where_is : (t : Bool) (r : Option ℕ) (n : ℕ) (Is : ℕ → Type 0) → IsLowest r Is
+    → IsLowest (lower_where t r n) (With Is t n)
 lower_where_is false r n Is h = same_lowest r Is (With Is false n) (λ k so. inl so) back h
   where
     back : (k : ℕ) → With Is false n k → Is k
@@ -50,7 +53,8 @@ abbrev pub Counts : {X : Type 0} → (X → Bool) → (X → ℕ) → List X →
 Counts {X} test number xs k = Any (λ x. (test x ≡ true) × (k ≡ number x)) xs
 
 -- the lowest of a list and what is there
-pub fold_lowest : {X : Type 0} (test : X → Bool) (number : X → ℕ) (xs : List X) (r : Option ℕ) (Is : ℕ → Type 0) → IsLowest r Is
+pub fold_lowest : {X : Type 0} (test : X → Bool) (number : X → ℕ) (xs : List X) (r : Option ℕ) (Is : ℕ → Type 0)
+    → IsLowest r Is
     → IsLowest (fold (λ lowest x. lower_where (test x) lowest (number x)) r xs) (λ k. Is k ⊎ Counts test number xs k)
 fold_lowest test number [] r Is h = same_lowest r Is (λ k. Is k ⊎ Counts test number [] k) (λ k so. inl so) back h
   where
@@ -59,7 +63,8 @@ fold_lowest test number [] r Is h = same_lowest r Is (λ k. Is k ⊎ Counts test
     back k (inr some) = absurd (any_none some)
 fold_lowest {X} test number (x ∷ xs) r Is h =
     same_lowest (fold (λ lowest y. lower_where (test y) lowest (number y)) (lower_where (test x) r (number x)) xs)
-    (λ k. With Is (test x) (number x) k ⊎ Counts test number xs k) (λ k. Is k ⊎ Counts test number (x ∷ xs) k) there back
+    (λ k. With Is (test x) (number x) k ⊎ Counts test number xs k) (λ k. Is k ⊎ Counts test number (x ∷ xs) k) there
+    back
     (fold_lowest test number xs (lower_where (test x) r (number x)) (With Is (test x) (number x))
     (lower_where_is (test x) r (number x) Is h))
   where
@@ -72,6 +77,7 @@ fold_lowest {X} test number (x ∷ xs) r Is h =
     back k (inl so) = inl (inl so)
     back k (inr some) = from_cases (any_cases x xs some)
       where
-        from_cases : ((test x ≡ true) × (k ≡ number x)) ⊎ Counts test number xs k → With Is (test x) (number x) k ⊎ Counts test number xs k
+        from_cases : ((test x ≡ true) × (k ≡ number x)) ⊎ Counts test number xs k
+            → With Is (test x) (number x) k ⊎ Counts test number xs k
         from_cases (inl here) = inl (inr here)
         from_cases (inr later) = inr later

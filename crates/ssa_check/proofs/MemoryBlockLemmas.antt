@@ -1,8 +1,11 @@
 -- What is found of a block decides what comes to it, what it leaves, and whether its values and its control are asked.
-use Rattle.std.proofs.Common.{◌≡◌, ◌⊎◌, inl, inr, Bool, true, false, cond, not, ◌&&◌, ◌||◌, if◌then◌else◌, List, [], ◌∷◌, length, filter, find, is_none, is_some, option_map, Option, None, Some, All, Contains, refl, sym, ap, subst, ◌∙◌, arith}
+use Rattle.std.proofs.Common.{◌≡◌, ◌⊎◌, inl, inr, Bool, true, false, cond, not, ◌&&◌, ◌||◌, if◌then◌else◌, List, []}
+use Rattle.std.proofs.Common.{◌∷◌, length, filter, find, is_none, is_some, option_map, Option, None, Some, All}
+use Rattle.std.proofs.Common.{Contains, refl, sym, ap, subst, ◌∙◌, arith}
 use Rattle.std.specs.List.{list_any}
 use Rattle.std.specs.Option.{option_or}
-use Rattle.std.proofs.lemmas.Bool.{and_from, and_parts, both_ways, cases_Bool, not-true, not_from_false, or_cases, or_left, or_parts, or_right}
+use Rattle.std.proofs.lemmas.Bool.{and_from, and_parts, both_ways, cases_Bool, not-true, not_from_false, or_cases}
+use Rattle.std.proofs.lemmas.Bool.{or_left, or_parts, or_right}
 use Rattle.std.proofs.lemmas.Option.{none-some, same_Some}
 use Rattle.gossa_base.specs.declared.ids.ValueId.{ValueId}
 use Rattle.ssa_ir.specs.declared.func.Block.{Block}
@@ -16,11 +19,15 @@ use Rattle.ssa_check.specs.declared.memories.Passed.{Passed}
 use Rattle.ssa_check.specs.declared.memories.Passed.TheVariants.{NoPath, Always, Varies}
 use Rattle.ssa_check.specs.declared.memory.BlockMemory.{BlockMemory}
 use Rattle.ssa_check.specs.ChainTables.{LeavesOf}
-use Rattle.ssa_check.specs.MemoryChains.{Chained, begins_memory, has_definer, is_definer, is_inner, is_memory_phi}
-use Rattle.ssa_check.specs.MemoryPaths.{AllPass, Asked, ComesIn, ExitFails, IsIncoming, IsIncomingBy, IsInit, IsOutgoing, MemoryBlockFails, TakesOther, is_exit, uses_memory}
-use Rattle.ssa_check.specs.MemoryTables.{IsMemoryOf, SaysPaths, asked_of, block_fails, comes_by, ends_otherwise, incoming_of, is_chained, is_loose, is_reached, is_start, lacks_memory, outgoing_of}
-use Rattle.ssa_check.specs.Paths.{Reached}
-use Rattle.ssa_check.specs.ValueChecks.{is_entry, is_init}
+use Rattle.ssa_ir.specs.MemoryChains.{Chained, begins_memory, has_definer, is_definer, is_inner, is_memory_phi}
+use Rattle.ssa_ir.specs.MemoryPaths.{AllPass, Asked, ComesIn, ExitFails, IsIncoming, IsIncomingBy, IsInit, IsOutgoing}
+use Rattle.ssa_ir.specs.MemoryPaths.{MemoryBlockFails, TakesOther, is_exit, uses_memory}
+use Rattle.ssa_check.specs.MemoryTables.{IsMemoryOf, SaysPaths, asked_of, block_fails, comes_by, ends_otherwise}
+use Rattle.ssa_check.specs.MemoryTables.{incoming_of, is_chained, is_loose, is_reached, is_start, lacks_memory}
+use Rattle.ssa_check.specs.MemoryTables.{outgoing_of}
+use Rattle.ssa_ir.specs.Paths.{Reached}
+use Rattle.ssa_ir.specs.Edges.{is_entry}
+use Rattle.ssa_ir.specs.OpKinds.{is_init}
 use Rattle.ssa_check.proofs.MemoryPathLemmas.{left_from, left_on, one_passed, path_blocks}
 
 -- ---- a block without definer is chained

@@ -1,18 +1,21 @@
 -- The tests of values by what is found of their blocks name exactly the values that fail the check of memory.
-use Rattle.std.proofs.Common.{◌≡◌, ℕ, zero, suc, ◌<◌, ◌⊎◌, inl, inr, true, false, not, ◌==◌, ◌||◌, List, [], ◌∷◌, length, map, get_or, slice_get, slice_index_or, option_map, Option, None, Some, MatchOption, Contains, refl, sym, ap, subst, ◌∙◌, arith}
+use Rattle.std.proofs.Common.{◌≡◌, ℕ, zero, suc, ◌<◌, ◌⊎◌, inl, inr, true, false, not, ◌==◌, ◌||◌, List, [], ◌∷◌}
+use Rattle.std.proofs.Common.{length, map, get_or, slice_get, slice_index_or, option_map, Option, None, Some}
+use Rattle.std.proofs.Common.{MatchOption, Contains, refl, sym, ap, subst, ◌∙◌, arith}
 use Rattle.std.specs.List.{All, Any, last_or, list_any}
 use Rattle.std.specs.Option.{option_or}
 use Rattle.std.proofs.lemmas.Bool.{and_from, and_parts, eq-eqb, not-true, not_from_false, or_cases, or_left, or_right}
 use Rattle.std.proofs.lemmas.List.{length-map}
 use Rattle.std.proofs.lemmas.List.Folds.{list_any_at}
-use Rattle.std.proofs.lemmas.Option.{get_or_from_slice_get, none-some, same_Some, slice_get-get_or, slice_get-map, slice_get_within}
+use Rattle.std.proofs.lemmas.Option.{get_or_from_slice_get, none-some, same_Some, slice_get-get_or, slice_get-map}
+use Rattle.std.proofs.lemmas.Option.{slice_get_within}
 use Rattle.gossa_base.specs.declared.ids.BlockId.{BlockId}
 use Rattle.gossa_base.specs.declared.ids.ValueId.{ValueId}
 use Rattle.ssa_ir.specs.declared.func.Block.{Block}
 use Rattle.ssa_ir.specs.declared.func.Func.{Func}
 use Rattle.ssa_ir.specs.declared.func.SsaUnit.{SsaUnit}
 use Rattle.ssa_ir.specs.declared.func.Value.{Value}
-use Rattle.ssa_ir.specs.FirstOrder.{reads_memory}
+use Rattle.ssa_ir.specs.OpKinds.{reads_memory, is_result}
 use Rattle.ssa_ir.specs.WellFormed.{BlockIsThere, WellFormedFunc}
 use Rattle.ssa_check.specs.declared.memories.Leaves.{Leaves}
 use Rattle.ssa_check.specs.declared.memories.Passed.{Passed}
@@ -20,17 +23,19 @@ use Rattle.ssa_check.specs.declared.memories.Passed.TheVariants.{NoPath}
 use Rattle.ssa_check.specs.declared.memory.BlockMemory.{BlockMemory}
 use Rattle.ssa_check.specs.declared.refusal.At.{At}
 use Rattle.ssa_check.specs.declared.refusal.Check.TheVariants.{Edges, Memory}
-use Rattle.ssa_check.specs.BlockChecks.{is_result}
 use Rattle.ssa_check.specs.Failing.{LeastPlace, Meets, at_block, at_value}
-use Rattle.ssa_check.specs.Flow.{index_in, preds_at, preds_of}
-use Rattle.ssa_check.specs.MemoryChains.{is_inner, is_memory_phi, takes, takes_inner}
-use Rattle.ssa_check.specs.MemoryPaths.{Asked, FirstFails, MemoryBlockFails, MemoryPhiFails, MemoryValueFails, ReaderFails, ResultFails, TakesOther}
-use Rattle.ssa_check.specs.MemoryTables.{AreLeaves, AreMemories, IsMemoryOf, asked_of, block_fails, either_place, ends_otherwise, is_other, memory_in, no_memory, phi_fails, result_fails, some_other, taker_fails, takes_other, value_fails}
+use Rattle.ssa_tables.specs.Blocks.{index_in, preds_at, preds_of}
+use Rattle.ssa_ir.specs.MemoryChains.{is_inner, is_memory_phi, takes, takes_inner}
+use Rattle.ssa_ir.specs.MemoryPaths.{Asked, FirstFails, MemoryBlockFails, MemoryPhiFails, MemoryValueFails, ReaderFails}
+use Rattle.ssa_ir.specs.MemoryPaths.{ResultFails, TakesOther}
+use Rattle.ssa_check.specs.MemoryTables.{AreLeaves, AreMemories, IsMemoryOf, asked_of, block_fails, either_place}
+use Rattle.ssa_check.specs.MemoryTables.{ends_otherwise, is_other, memory_in, no_memory, phi_fails, result_fails}
+use Rattle.ssa_check.specs.MemoryTables.{some_other, taker_fails, takes_other, value_fails}
 use Rattle.ssa_check.specs.PassedMemories.{ArePassedMemories}
-use Rattle.ssa_check.specs.Paths.{IsPath}
-use Rattle.ssa_check.specs.Tables.{lowest_block, lowest_value}
+use Rattle.ssa_ir.specs.Paths.{IsPath}
+use Rattle.ssa_check.specs.Lowest.{lowest_block, lowest_value}
 use Rattle.ssa_check.proofs.FirstPlaceLemmas.{then_block, value_first}
-use Rattle.ssa_check.proofs.FlowPaths.{index_within, name_there, preds_of_block, stands_at}
+use Rattle.ssa_tables.proofs.BlockLemmas.{index_within, name_there, preds_of_block, stands_at}
 use Rattle.ssa_check.proofs.MemoryBlockLemmas.{asked_from, asked_to, block_from, block_to, ends_from, ends_to}
 use Rattle.ssa_check.proofs.MemoryPathLemmas.{OtherPath, other_said, path_blocks, said_other}
 
@@ -269,40 +274,41 @@ memory_of f well memories are b there =
 
 module _ (u : SsaUnit) (f : Func) (well : WellFormedFunc f) (edges : (w : SsaUnit) → Meets Edges w f)
     (leaves : List Leaves) (are : AreLeaves f leaves) (passed : List Passed)
-    (says : ArePassedMemories (preds_of f) leaves passed) (memories : List BlockMemory) (each : AreMemories f memories) where
-  found_value : (b : Block) → Contains f.blocks b → (v : Value) → Contains b.values v
-      → value_fails f passed (memory_in f memories b) b v ≡ true → MemoryValueFails f b v
-  found_value b of_func v of_block =
-      value_from f well edges leaves are passed says b of_func v (memory_in f memories b)
-      (memory_of f well memories each b of_func)
+    (says : ArePassedMemories (preds_of f) leaves passed) (memories : List BlockMemory) (each : AreMemories f memories)
+  where
+    found_value : (b : Block) → Contains f.blocks b → (v : Value) → Contains b.values v
+        → value_fails f passed (memory_in f memories b) b v ≡ true → MemoryValueFails f b v
+    found_value b of_func v of_block =
+        value_from f well edges leaves are passed says b of_func v (memory_in f memories b)
+        (memory_of f well memories each b of_func)
 
-  named_value : (b : Block) → Contains f.blocks b → (v : Value) → Contains b.values v → MemoryValueFails f b v
-      → value_fails f passed (memory_in f memories b) b v ≡ true
-  named_value b of_func v of_block =
-      value_to f well edges leaves are passed says b of_func v (memory_in f memories b)
-      (memory_of f well memories each b of_func)
+    named_value : (b : Block) → Contains f.blocks b → (v : Value) → Contains b.values v → MemoryValueFails f b v
+        → value_fails f passed (memory_in f memories b) b v ≡ true
+    named_value b of_func v of_block =
+        value_to f well edges leaves are passed says b of_func v (memory_in f memories b)
+        (memory_of f well memories each b of_func)
 
-  found_block : (b : Block) → Contains f.blocks b → block_fails b (memory_in f memories b) ≡ true → MemoryBlockFails f b
-  found_block b of_func =
-      block_from f well b of_func (memory_in f memories b) (memory_of f well memories each b of_func)
+    found_block : (b : Block) → Contains f.blocks b → block_fails b (memory_in f memories b) ≡ true → MemoryBlockFails f b
+    found_block b of_func =
+        block_from f well b of_func (memory_in f memories b) (memory_of f well memories each b of_func)
 
-  named_block : (b : Block) → Contains f.blocks b → MemoryBlockFails f b → block_fails b (memory_in f memories b) ≡ true
-  named_block b of_func =
-      block_to f well b of_func (memory_in f memories b) (memory_of f well memories each b of_func)
+    named_block : (b : Block) → Contains f.blocks b → MemoryBlockFails f b → block_fails b (memory_in f memories b) ≡ true
+    named_block b of_func =
+        block_to f well b of_func (memory_in f memories b) (memory_of f well memories each b of_func)
 
-  module _ (value block : Option ℕ)
-      (values_are : value ≡ lowest_value (λ b v. value_fails f passed (memory_in f memories b) b v) f)
-      (blocks_are : block ≡ lowest_block (λ b. block_fails b (memory_in f memories b)) f) where
-    by_value : (o : Option At) → at_value value ≡ o
-        → MatchOption (option_or o (at_block block)) (Meets Memory u f) (LeastPlace Memory u f)
-    by_value (Some at) is =
-        value_first Memory u f well (λ b v. value_fails f passed (memory_in f memories b) b v)
-        (λ b. block_fails b (memory_in f memories b)) (λ none. none) found_value named_value found_block named_block
-        value values_are at is
-    by_value None is =
-        then_block Memory u f well (λ b v. value_fails f passed (memory_in f memories b) b v)
-        (λ b. block_fails b (memory_in f memories b)) (λ none. none) found_value named_value found_block named_block
-        value values_are is block blocks_are
+    module _ (value block : Option ℕ)
+        (values_are : value ≡ lowest_value (λ b v. value_fails f passed (memory_in f memories b) b v) f)
+        (blocks_are : block ≡ lowest_block (λ b. block_fails b (memory_in f memories b)) f) where
+      by_value : (o : Option At) → at_value value ≡ o
+          → MatchOption (option_or o (at_block block)) (Meets Memory u f) (LeastPlace Memory u f)
+      by_value (Some at) is =
+          value_first Memory u f well (λ b v. value_fails f passed (memory_in f memories b) b v)
+          (λ b. block_fails b (memory_in f memories b)) (λ none. none) found_value named_value found_block named_block
+          value values_are at is
+      by_value None is =
+          then_block Memory u f well (λ b v. value_fails f passed (memory_in f memories b) b v)
+          (λ b. block_fails b (memory_in f memories b)) (λ none. none) found_value named_value found_block named_block
+          value values_are is block blocks_are
 
-    pub memory_place : MatchOption (either_place value block) (Meets Memory u f) (LeastPlace Memory u f)
-    memory_place = by_value (at_value value) refl
+      pub memory_place : MatchOption (either_place value block) (Meets Memory u f) (LeastPlace Memory u f)
+      memory_place = by_value (at_value value) refl

@@ -1,5 +1,6 @@
 -- The memory that a path of blocks passes is the one on the path of their indexes.
-use Rattle.std.proofs.Common.{◌≡◌, ◌≢◌, ℕ, ◌<◌, ◌⊎◌, inl, inr, true, false, ◌==◌, List, [], ◌∷◌, length, get_or, drop, slice_get, slice_index_or, Option, Some, refl, sym, ap, subst, ◌∙◌, arith}
+use Rattle.std.proofs.Common.{◌≡◌, ◌≢◌, ℕ, ◌<◌, ◌⊎◌, inl, inr, true, false, ◌==◌, List, [], ◌∷◌, length, get_or, drop}
+use Rattle.std.proofs.Common.{slice_get, slice_index_or, Option, Some, refl, sym, ap, subst, ◌∙◌, arith}
 use Rattle.std.specs.List.{Contains, list_any}
 use Rattle.std.proofs.lemmas.Bool.{both_ways, eqb-true, eq-eqb, false_from_ne_true, not-true, not_from_false}
 use Rattle.std.proofs.lemmas.Option.{none-some, same_Some, slice_get_within, slice_get-get_or}
@@ -16,14 +17,15 @@ use Rattle.ssa_check.specs.declared.memories.Passed.TheVariants.{NoPath, Always,
 use Rattle.ssa_check.specs.declared.refusal.Check.TheVariants.{Edges}
 use Rattle.ssa_check.specs.ChainTables.{LeavesOf}
 use Rattle.ssa_check.specs.Failing.{Meets}
-use Rattle.ssa_check.specs.Flow.{IsIndexPath, index_in, preds_at, preds_of}
-use Rattle.ssa_check.specs.MemoryChains.{IsLast, has_definer}
-use Rattle.ssa_check.specs.MemoryPaths.{Passes}
+use Rattle.ssa_tables.specs.Blocks.{IsIndexPath, index_in, preds_at, preds_of}
+use Rattle.ssa_ir.specs.MemoryChains.{IsLast, has_definer}
+use Rattle.ssa_ir.specs.MemoryPaths.{Passes}
 use Rattle.ssa_check.specs.MemoryTables.{AreLeaves, SaysPaths, is_other}
 use Rattle.ssa_check.specs.PassedMemories.{CameOther, IsReached, PassesOther, SaysBefore, SaysOf, left_by, memory_on}
-use Rattle.ssa_check.specs.Paths.{IsPath, Reached}
+use Rattle.ssa_ir.specs.Paths.{IsPath, Reached}
 use Rattle.ssa_check.proofs.ChainLemmas.{one_last}
-use Rattle.ssa_check.proofs.FlowPaths.{block_path, index_path, indexes, same_index, stands_at}
+use Rattle.ssa_check.proofs.FlowPaths.{block_path, index_path, indexes}
+use Rattle.ssa_tables.proofs.BlockLemmas.{same_index, stands_at}
 
 -- ---- numbers of memories
 

@@ -1,15 +1,19 @@
 -- What sweeps find is what paths show, and where nothing new comes it tells of all of them.
-use Rattle.std.proofs.Common.{◌≡◌, ℕ, zero, suc, ◌==◌, ◌+◌, ◌<◌, ◌≤◌, ◌⊎◌, inl, inr, Bool, true, false, if◌then◌else◌, List, [], ◌∷◌, ◌++◌, length, fold, get_or, set, take, drop, replicate, Option, None, Some, refl, sym, subst, ap, ◌∙◌, arith}
+use Rattle.std.proofs.Common.{◌≡◌, ℕ, zero, suc, ◌==◌, ◌+◌, ◌<◌, ◌≤◌, ◌⊎◌, inl, inr, Bool, true, false, if◌then◌else◌}
+use Rattle.std.proofs.Common.{List, [], ◌∷◌, ◌++◌, length, fold, get_or, set, take, drop, replicate, Option, None, Some}
+use Rattle.std.proofs.Common.{refl, sym, subst, ap, ◌∙◌, arith}
 use Rattle.std.specs.List.{list_any}
 use Rattle.std.proofs.Math.Seq.{take-append_seam}
 use Rattle.std.proofs.lemmas.Bool.{cases_eq, cases_lt, eq-eqb, eqb-true, false≢true}
-use Rattle.std.proofs.lemmas.List.{get_or-replicate, get_or-set_same, get_or-set_other, get_or_past, length-replicate, length-set}
+use Rattle.std.proofs.lemmas.List.{get_or-replicate, get_or-set_same, get_or-set_other, get_or_past, length-replicate}
+use Rattle.std.proofs.lemmas.List.{length-set}
 use Rattle.std.proofs.lemmas.List.Sums.{sum_by-set}
 use Rattle.std.proofs.lemmas.Option.{none-some}
 use Rattle.gossa_base.specs.declared.ids.ValueId.{ValueId}
 use Rattle.ssa_ir.specs.FirstOrder.{same_value}
-use Rattle.ssa_check.specs.Flow.{IsIndexPath, preds_at}
-use Rattle.ssa_check.specs.MemorySweeps.{AreShown, Brings, BringsOther, IsSettled, Shows, Sweeps, Updates, after, all_left, before_of, changes_left, met, next_of, passed_at}
+use Rattle.ssa_tables.specs.Blocks.{IsIndexPath, preds_at}
+use Rattle.ssa_check.specs.MemorySweeps.{AreShown, Brings, BringsOther, IsSettled, Shows, Sweeps, Updates, after}
+use Rattle.ssa_check.specs.MemorySweeps.{all_left, before_of, changes_left, met, next_of, passed_at}
 use Rattle.ssa_check.specs.PassedMemories.{ArePassedMemories, IsReached, SaysBefore, SaysOf, left_by, memory_on}
 use Rattle.ssa_check.specs.declared.memories.Leaves.{Leaves}
 use Rattle.ssa_check.specs.declared.memories.Leaves.TheVariants.{Through, Known, Unknown}
@@ -117,8 +121,10 @@ end_covers : (preds : List (List ℕ)) (leaves : List Leaves) (passed : List Pas
 end_covers preds leaves passed settled [] is = absurd is
 end_covers preds leaves passed settled (b ∷ []) is =
     subst (λ x. Covers x (memory_on leaves (b ∷ []))) (settled b is.1)
-    (covers_second (passed_at passed b) (after (get_or leaves b Unknown) (before_of preds passed b)) (memory_on leaves (b ∷ []))
-    (covers_after (get_or leaves b Unknown) (before_of preds passed b) None (came_covers preds leaves passed b [] is tt)))
+    (covers_second (passed_at passed b) (after (get_or leaves b Unknown) (before_of preds passed b))
+    (memory_on leaves (b ∷ []))
+    (covers_after (get_or leaves b Unknown) (before_of preds passed b) None
+    (came_covers preds leaves passed b [] is tt)))
 end_covers preds leaves passed settled (b ∷ a ∷ before) is =
     subst (λ x. Covers x (memory_on leaves (b ∷ a ∷ before))) (settled b (within preds b (a ∷ before) is))
     (covers_second (passed_at passed b) (after (get_or leaves b Unknown) (before_of preds passed b))
@@ -234,7 +240,8 @@ shows_before preds leaves passed shown (suc b) is =
     shows_on preds leaves passed (suc b) shown (preds_at preds (suc b)) (λ a here. here) NoPath tt
 
 -- what comes now is shown too
-shows_next : (preds : List (List ℕ)) (leaves : List Leaves) (passed : List Passed) → AreShown preds leaves passed → (b : ℕ)
+shows_next : (preds : List (List ℕ)) (leaves : List Leaves) (passed : List Passed) → AreShown preds leaves passed
+    → (b : ℕ)
     → b < length preds → Shows (Ends preds leaves b) (next_of preds leaves passed b)
 shows_next preds leaves passed shown b is =
     let left : Leaves = get_or leaves b Unknown in
@@ -263,7 +270,8 @@ set_shown preds leaves old k x here h shown = λ b. by_cases b (cases_eq b k)
     by_cases b (inl same) =
         subst (λ i. Shows (Ends preds leaves i) (passed_at (set old k x) i)) (sym same)
         (subst (Shows (Ends preds leaves k)) (sym (get_or-set_same old k x NoPath here)) h)
-    by_cases b (inr differ) = subst (Shows (Ends preds leaves b)) (sym (get_or-set_other old k b x NoPath differ)) (shown b)
+    by_cases b (inr differ) =
+        subst (Shows (Ends preds leaves b)) (sym (get_or-set_other old k b x NoPath differ)) (shown b)
 
 less_left : (new put next was mid old : ℕ) → new ≡ put → put + was ≡ mid + next → next < was → mid ≤ old → new < old
 less_left new put next was mid old same sums less le = omega (arith, same, sums, less, le)
@@ -298,7 +306,8 @@ module _ (preds : List (List ℕ)) (leaves : List Leaves) (k : ℕ) (old mid new
       fewer : all_left mid ≤ all_left old → all_left new < all_left old
       fewer le =
           less_left (all_left new) (all_left (set mid k next)) (changes_left next) (changes_left (passed_at mid k))
-          (all_left mid) (all_left old) (ap all_left update.0) (sum_by-set changes_left mid k next NoPath bound) update.1 le
+          (all_left mid) (all_left old) (ap all_left update.0) (sum_by-set changes_left mid k next NoPath bound)
+          update.1 le
 
   unchanged_then : (changed : Bool) → Sweeps preds leaves k old mid changed → Updates preds leaves k mid new false
       → Sweeps preds leaves (suc k) old new changed
@@ -369,7 +378,8 @@ says_before preds leaves b Varies h covers = (
 )
 
 settled_passed : (preds : List (List ℕ)) (leaves : List Leaves) (passed : List Passed) → length passed ≡ length preds
-    → AreShown preds leaves passed → IsSettled preds leaves passed (length preds) → ArePassedMemories preds leaves passed
+    → AreShown preds leaves passed → IsSettled preds leaves passed (length preds)
+    → ArePassedMemories preds leaves passed
 settled_passed preds leaves passed one_each shown settled = record {
   says = λ b is. says_end preds leaves b (passed_at passed b) (shown b)
       (λ before path. end_covers preds leaves passed settled (b ∷ before) path);
@@ -417,7 +427,8 @@ said_covers preds leaves b NoPath h before is = h before is
 said_covers preds leaves b (Always m) h before is = h.1 before is
 said_covers preds leaves b Varies h before is = tt
 
-are_shown : (preds : List (List ℕ)) (leaves : List Leaves) (passed : List Passed) → ArePassedMemories preds leaves passed
+are_shown : (preds : List (List ℕ)) (leaves : List Leaves) (passed : List Passed)
+    → ArePassedMemories preds leaves passed
     → AreShown preds leaves passed
 are_shown preds leaves passed are b = by_cases (cases_lt b (length preds))
   where
@@ -426,7 +437,8 @@ are_shown preds leaves passed are b = by_cases (cases_lt b (length preds))
     by_cases (inr past) =
         subst (Shows (Ends preds leaves b)) (sym (get_or_past passed b NoPath (omega (arith, past, are.one_each)))) tt
 
-all_cover : (preds : List (List ℕ)) (leaves : List Leaves) (passed : List Passed) → ArePassedMemories preds leaves passed
+all_cover : (preds : List (List ℕ)) (leaves : List Leaves) (passed : List Passed)
+    → ArePassedMemories preds leaves passed
     → (b : ℕ) (before : List ℕ) → IsIndexPath preds (b ∷ before) → EndCovers leaves passed before
 all_cover preds leaves passed are b [] is = tt
 all_cover preds leaves passed are b (a ∷ before) is =

@@ -1,7 +1,10 @@
 -- What tables of blocks say after one more block, and what the look-up of an inner definer of a block answers.
-use Rattle.std.proofs.Common.{◌≡◌, ℕ, zero, suc, ◌+◌, ◌<◌, ◌⊎◌, inl, inr, Bool, true, false, cond, eqb, not, ◌&&◌, ◌||◌, List, [], ◌∷◌, ◌++◌, length, map, filter, find, flat_map, get_or, slice_get, None, Some, Contains, drop, slice_index_or, ◌≤◌, refl, sym, ap, subst, ◌∙◌, arith}
+use Rattle.std.proofs.Common.{◌≡◌, ℕ, zero, suc, ◌+◌, ◌<◌, ◌⊎◌, inl, inr, Bool, true, false, cond, eqb, not, ◌&&◌, ◌||◌}
+use Rattle.std.proofs.Common.{List, [], ◌∷◌, ◌++◌, length, map, filter, find, flat_map, get_or, slice_get, None, Some}
+use Rattle.std.proofs.Common.{Contains, drop, slice_index_or, ◌≤◌, refl, sym, ap, subst, ◌∙◌, arith}
 use Rattle.std.specs.List.{list_any}
-use Rattle.std.proofs.lemmas.Bool.{and_from, and_parts, eq-eqb, eqb-true, false_from_ne_true, or_cases, or_left, or_right}
+use Rattle.std.proofs.lemmas.Bool.{and_from, and_parts, eq-eqb, eqb-true, false_from_ne_true, or_cases, or_left}
+use Rattle.std.proofs.lemmas.Bool.{or_right}
 use Rattle.std.proofs.lemmas.List.{get_or-map, length-append, length-map}
 use Rattle.std.proofs.lemmas.List.Elements.{Contains-append_left, Contains-append_right}
 use Rattle.std.proofs.lemmas.List.Folds.{Any-from_list_any, list_any_at}
@@ -13,7 +16,7 @@ use Rattle.ssa_ir.specs.declared.func.Value.{Value}
 use Rattle.ssa_ir.specs.FirstOrder.{has_value, same_memory, same_value}
 use Rattle.ssa_ir.specs.Lookups.{is_numbered, value_of, values_of}
 use Rattle.ssa_ir.specs.WellFormed.{Differ, WellFormedFunc}
-use Rattle.ssa_check.specs.MemoryChains.{inner_of, is_inner, taken_by}
+use Rattle.ssa_ir.specs.MemoryChains.{inner_of, is_inner, taken_by}
 use Rattle.ssa_check.specs.declared.memories.Passed.{Passed}
 use Rattle.ssa_check.specs.declared.memories.Passed.TheVariants.{NoPath}
 use Rattle.ssa_check.specs.MemoryTables.{EachOf, has_inner, is_other, some_other, takes_other}

@@ -1,5 +1,6 @@
 -- The checks one after the other, by their numbers.
-use Rattle.std.proofs.Common.{◌≡◌, ℕ, suc, ◌==◌, Bool, true, false, Option, None, Some, MatchOption, if◌then◌else◌, eqb, refl, sym, ap, subst, ◌∙◌, arith}
+use Rattle.std.proofs.Common.{◌≡◌, ℕ, suc, ◌==◌, Bool, true, false, Option, None, Some, MatchOption, if◌then◌else◌, eqb}
+use Rattle.std.proofs.Common.{refl, sym, ap, subst, ◌∙◌, arith}
 use Rattle.std.proofs.lemmas.Bool.{eqb-true, eqb-false}
 use Rattle.ssa_ir.specs.declared.func.Func.{Func}
 use Rattle.ssa_ir.specs.declared.func.SsaUnit.{SsaUnit}
@@ -7,7 +8,8 @@ use Rattle.ssa_check.specs.declared.faults.Found.{Found}
 use Rattle.ssa_check.specs.declared.refusal.At.{At}
 use Rattle.ssa_check.specs.declared.refusal.At.TheVariants.{Func as AtFunc, Value as AtValue, Block as AtBlock}
 use Rattle.ssa_check.specs.declared.refusal.Check.{Check}
-use Rattle.ssa_check.specs.declared.refusal.Check.TheVariants.{Entry, Edges, PhiArity, Arity, Types, ArgOrInit, Callee, Memory, Cycle, Undefined, Control}
+use Rattle.ssa_check.specs.declared.refusal.Check.TheVariants.{Entry, Edges, PhiArity, Arity, Types, ArgOrInit, Callee}
+use Rattle.ssa_check.specs.declared.refusal.Check.TheVariants.{Memory, Cycle, Undefined, Control}
 use Rattle.ssa_check.specs.Failing.{FirstFaultOf, LeastPlace, Meets, MeetsAll, MetBelow, number_of}
 
 -- the check of a number
@@ -60,7 +62,8 @@ none_below u f Undefined lt = absurd (omega (arith, lt))
 none_below u f Control lt = absurd (omega (arith, lt))
 
 -- one more check is met
-pub one_more : (n : ℕ) (c : Check) (u : SsaUnit) (f : Func) → number_of c ≡ n → MetBelow n u f → Meets c u f → MetBelow (suc n) u f
+pub one_more : (n : ℕ) (c : Check) (u : SsaUnit) (f : Func) → number_of c ≡ n → MetBelow n u f → Meets c u f
+    → MetBelow (suc n) u f
 one_more n c u f is below met d lt = go (eqb (number_of d) n) refl
   where
     go : (b : Bool) → eqb (number_of d) n ≡ b → Meets d u f
@@ -98,12 +101,14 @@ module _ (u : SsaUnit) (f : Func) where
 
 -- ---- what was found, by what it is
 
-pub when_none : (c : Check) (u : SsaUnit) (f : Func) (o : Option At) → MatchOption o (Meets c u f) (LeastPlace c u f) → o ≡ None
+pub when_none : (c : Check) (u : SsaUnit) (f : Func) (o : Option At) → MatchOption o (Meets c u f) (LeastPlace c u f)
+    → o ≡ None
     → Meets c u f
 when_none c u f None h e = h
 when_none c u f (Some at) h e = cc
 
-pub when_some : (c : Check) (u : SsaUnit) (f : Func) (o : Option At) (at : At) → MatchOption o (Meets c u f) (LeastPlace c u f)
+pub when_some : (c : Check) (u : SsaUnit) (f : Func) (o : Option At) (at : At)
+    → MatchOption o (Meets c u f) (LeastPlace c u f)
     → o ≡ Some at → LeastPlace c u f at
 when_some c u f None at h e = cc
 when_some c u f (Some found) at h e = let same : found ≡ at = cc in subst (LeastPlace c u f) same h

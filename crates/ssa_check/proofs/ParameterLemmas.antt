@@ -1,12 +1,13 @@
 -- What the lowest number of some values tells of all of them.
-use Rattle.std.proofs.Common.{◌≡◌, ℕ, nat_lt, Bool, true, false, ◌&&◌, ◌||◌, if◌then◌else◌, List, [], ◌∷◌, Option, None, Some, is_some, refl, sym, ap, ◌∙◌, arith}
+use Rattle.std.proofs.Common.{◌≡◌, ℕ, nat_lt, Bool, true, false, ◌&&◌, ◌||◌, if◌then◌else◌, List, [], ◌∷◌, Option, None}
+use Rattle.std.proofs.Common.{Some, is_some, refl, sym, ap, ◌∙◌, arith}
 use Rattle.std.specs.List.{list_any}
 use Rattle.std.proofs.lemmas.Bool.Decides.{nat_tests}
 use Rattle.ssa_ir.specs.declared.func.Func.{Func}
 use Rattle.ssa_ir.specs.declared.func.Value.{Value}
 use Rattle.ssa_ir.specs.Lookups.{values_of}
 use Rattle.ssa_check.specs.ParameterTables.{lowest_of, is_init_value, is_below}
-use Rattle.ssa_check.specs.Tables.{lower_where}
+use Rattle.ssa_check.specs.Lowest.{lower_where}
 use Rattle.ssa_check.specs.ValueChecks.{has_init}
 
 or_false : (a : Bool) → a ≡ (a || false)
@@ -28,7 +29,8 @@ below_more None true k n = refl
 below_more (Some m) true k n = lower_below k m n (nat_lt k m) refl
 
 below_from : (test : Value → Bool) (values : List Value) (before : Option ℕ) (n : ℕ)
-    → is_below (lowest_of test before values) n ≡ (is_below before n || list_any (λ u. test u && nat_lt u.id.0 n) values)
+    → is_below (lowest_of test before values) n
+    ≡ (is_below before n || list_any (λ u. test u && nat_lt u.id.0 n) values)
 below_from test [] before n = or_false (is_below before n)
 below_from test (v ∷ values) before n =
     below_from test values (lower_where (test v) before v.id.0) n
@@ -54,9 +56,11 @@ some_from test (v ∷ values) before =
     ∙ or_assoc (is_some before) (test v) (list_any test values)
 
 -- there is a lowest number where there is some value
-pub some_lowest : (test : Value → Bool) (values : List Value) → is_some (lowest_of test None values) ≡ list_any test values
+pub some_lowest : (test : Value → Bool) (values : List Value)
+    → is_some (lowest_of test None values) ≡ list_any test values
 some_lowest test values = some_from test values None
 
 -- the function has an InitMem where there is a lowest one
-pub has_init_is : (f : Func) (lowest : Option ℕ) → lowest ≡ lowest_of is_init_value None (values_of f) → has_init f ≡ is_some lowest
+pub has_init_is : (f : Func) (lowest : Option ℕ) → lowest ≡ lowest_of is_init_value None (values_of f)
+    → has_init f ≡ is_some lowest
 has_init_is f lowest is = sym (some_lowest is_init_value (values_of f)) ∙ ap is_some (sym is)

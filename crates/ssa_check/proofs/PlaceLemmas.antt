@@ -1,5 +1,6 @@
 -- From the lowest failing number to the least place that fails a check, where only values or only blocks can fail it.
-use Rattle.std.proofs.Common.{◌≡◌, ℕ, ◌⊎◌, inl, inr, Bool, true, false, List, [], ◌∷◌, Option, None, Some, MatchOption, subst, sym, ap, arith}
+use Rattle.std.proofs.Common.{◌≡◌, ℕ, ◌⊎◌, inl, inr, Bool, true, false, List, [], ◌∷◌, Option, None, Some, MatchOption}
+use Rattle.std.proofs.Common.{subst, sym, ap, arith}
 use Rattle.std.specs.List.{Any, Contains, fold}
 use Rattle.gossa_base.specs.declared.ids.BlockId.{BlockId}
 use Rattle.gossa_base.specs.declared.ids.ValueId.{ValueId}
@@ -11,8 +12,9 @@ use Rattle.ssa_check.specs.declared.refusal.At.{At}
 use Rattle.ssa_check.specs.declared.refusal.At.TheVariants.{Func as AtFunc, Value as AtValue, Block as AtBlock}
 use Rattle.ssa_check.specs.declared.refusal.Check.{Check}
 use Rattle.ssa_ir.specs.WellFormed.{WellFormedFunc}
-use Rattle.ssa_check.specs.Failing.{FuncFails, ValueFails, BlockFails, FailsAt, at_value, at_block, IsBefore, Meets, LeastPlace}
-use Rattle.ssa_check.specs.Tables.{lowest_in, lowest_value, lowest_block}
+use Rattle.ssa_check.specs.Failing.{FuncFails, ValueFails, BlockFails, FailsAt, at_value, at_block, IsBefore, Meets}
+use Rattle.ssa_check.specs.Failing.{LeastPlace}
+use Rattle.ssa_check.specs.Lowest.{lowest_in, lowest_value, lowest_block}
 use Rattle.graphs.proofs.AnyLemmas.{any_none, any_here, any_later, any_cases}
 use Rattle.ssa_check.proofs.LowestLemmas.{IsLowest, same_lowest, Counts, fold_lowest}
 
@@ -51,9 +53,11 @@ fold_blocks test (b ∷ blocks) r Is h =
         from_cases (inr later) = inr later
 
 -- the lowest value is the lowest of those that fail
-pub values_lowest : (test : Block → Value → Bool) (f : Func) → IsLowest (lowest_value test f) (ValueCounts test f.blocks)
+pub values_lowest : (test : Block → Value → Bool) (f : Func)
+    → IsLowest (lowest_value test f) (ValueCounts test f.blocks)
 values_lowest test f =
-    same_lowest (lowest_value test f) (λ k. ⊥ ⊎ ValueCounts test f.blocks k) (ValueCounts test f.blocks) there (λ k some. inr some)
+    same_lowest (lowest_value test f) (λ k. ⊥ ⊎ ValueCounts test f.blocks k) (ValueCounts test f.blocks) there
+    (λ k some. inr some)
     (fold_blocks test f.blocks None (λ k. ⊥) (λ k so. so))
   where
     there : (k : ℕ) → ⊥ ⊎ ValueCounts test f.blocks k → ValueCounts test f.blocks k
@@ -76,8 +80,10 @@ func_place c u f fails = record { fails = fails; least = none_before }
 -- only values fail the check, and of the function's values those that a test names
 module _ (c : Check) (u : SsaUnit) (f : Func) (test : Block → Value → Bool)
     (no_func : FuncFails c u f → ⊥) (no_block : (b : Block) → BlockFails c u f b → ⊥)
-    (found : (b : Block) → Contains f.blocks b → (v : Value) → Contains b.values v → test b v ≡ true → ValueFails c u f b v)
-    (named : (b : Block) → Contains f.blocks b → (v : Value) → Contains b.values v → ValueFails c u f b v → test b v ≡ true) where
+    (found : (b : Block) → Contains f.blocks b → (v : Value) → Contains b.values v → test b v ≡ true
+    → ValueFails c u f b v)
+    (named : (b : Block) → Contains f.blocks b → (v : Value) → Contains b.values v → ValueFails c u f b v
+    → test b v ≡ true) where
   -- a value of a failing number fails
   value_fails : (k : ℕ) → ValueCounts test f.blocks k → FailsAt c u f (AtValue (record { 0 = k }))
   value_fails k some =
@@ -94,16 +100,19 @@ module _ (c : Check) (u : SsaUnit) (f : Func) (test : Block → Value → Bool)
   met none (AtValue id) fails = none id.0 (value_counts id fails)
   met none (AtBlock id) (k, b, within, is, p) = no_block b p.1
 
-  least : (m : ℕ) → IsLowest (Some m) (ValueCounts test f.blocks) → (other : At) → IsBefore other (AtValue (record { 0 = m })) → FailsAt c u f other → ⊥
+  least : (m : ℕ) → IsLowest (Some m) (ValueCounts test f.blocks) → (other : At)
+      → IsBefore other (AtValue (record { 0 = m })) → FailsAt c u f other → ⊥
   least m h AtFunc before fails = no_func fails
   least m h (AtValue id) before fails = omega (arith, before, h.1 id.0 (value_counts id fails))
   least m h (AtBlock id) before fails = absurd before
 
-  place_of : (r : Option ℕ) → IsLowest r (ValueCounts test f.blocks) → MatchOption (at_value r) (Meets c u f) (LeastPlace c u f)
+  place_of : (r : Option ℕ) → IsLowest r (ValueCounts test f.blocks)
+      → MatchOption (at_value r) (Meets c u f) (LeastPlace c u f)
   place_of None h = met h
   place_of (Some m) h = record { fails = value_fails m h.0; least = least m h }
 
-  pub value_place_of : (r : Option ℕ) → r ≡ lowest_value test f → MatchOption (at_value r) (Meets c u f) (LeastPlace c u f)
+  pub value_place_of : (r : Option ℕ) → r ≡ lowest_value test f
+      → MatchOption (at_value r) (Meets c u f) (LeastPlace c u f)
   value_place_of r is = place_of r (subst (λ o. IsLowest o (ValueCounts test f.blocks)) (sym is) (values_lowest test f))
 
 -- the same where the test names those of all values
@@ -121,7 +130,8 @@ BlockCounts test blocks k = Counts test (λ b. b.id.n) blocks k
 -- the lowest block is the lowest of those that fail
 pub blocks_lowest : (test : Block → Bool) (f : Func) → IsLowest (lowest_block test f) (BlockCounts test f.blocks)
 blocks_lowest test f =
-    same_lowest (lowest_block test f) (λ k. ⊥ ⊎ BlockCounts test f.blocks k) (BlockCounts test f.blocks) there (λ k some. inr some)
+    same_lowest (lowest_block test f) (λ k. ⊥ ⊎ BlockCounts test f.blocks k) (BlockCounts test f.blocks) there
+    (λ k some. inr some)
     (fold_lowest test (λ b. b.id.n) f.blocks None (λ k. ⊥) (λ k so. so))
   where
     there : (k : ℕ) → ⊥ ⊎ BlockCounts test f.blocks k → BlockCounts test f.blocks k
@@ -171,8 +181,10 @@ module _ (c : Check) (u : SsaUnit) (f : Func) (test : Block → Bool) (whole : W
   place_of_lowest None h = no_block_fails h
   place_of_lowest (Some m) h = record { fails = block_fails m h.0; least = least_block m h }
 
-  pub block_place_of : (r : Option ℕ) → r ≡ lowest_block test f → MatchOption (at_block r) (Meets c u f) (LeastPlace c u f)
-  block_place_of r is = place_of_lowest r (subst (λ o. IsLowest o (BlockCounts test f.blocks)) (sym is) (blocks_lowest test f))
+  pub block_place_of : (r : Option ℕ) → r ≡ lowest_block test f
+      → MatchOption (at_block r) (Meets c u f) (LeastPlace c u f)
+  block_place_of r is =
+      place_of_lowest r (subst (λ o. IsLowest o (BlockCounts test f.blocks)) (sym is) (blocks_lowest test f))
 
 -- the same where the test names those of all blocks
 pub block_place : (c : Check) (u : SsaUnit) (f : Func) (test : Block → Bool) → WellFormedFunc f → (FuncFails c u f → ⊥)

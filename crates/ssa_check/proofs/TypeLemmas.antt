@@ -1,5 +1,6 @@
 -- The class of the last of values, and the check of classes from its test.
-use Rattle.std.proofs.Common.{◌≡◌, ℕ, zero, suc, ◌-◌, Bool, true, false, not, List, [], ◌∷◌, length, slice_get, Option, Some, MatchOption, refl, ap, arith}
+use Rattle.std.proofs.Common.{◌≡◌, ℕ, zero, suc, ◌-◌, Bool, true, false, not, List, [], ◌∷◌, length, slice_get, Option}
+use Rattle.std.proofs.Common.{Some, MatchOption, refl, ap, arith}
 use Rattle.std.proofs.lemmas.Option.{slice_get_within}
 use Rattle.gossa_base.specs.declared.ids.ValueId.{ValueId}
 use Rattle.ssa_ir.specs.declared.func.Func.{Func}
@@ -7,7 +8,7 @@ use Rattle.ssa_ir.specs.declared.func.SsaUnit.{SsaUnit}
 use Rattle.ssa_check.specs.declared.refusal.Check.TheVariants.{Types}
 use Rattle.ssa_check.specs.Failing.{at_value, Meets, LeastPlace}
 use Rattle.ssa_check.specs.OpTypes.{class_at, classes_of, last_of}
-use Rattle.ssa_check.specs.Tables.{lowest_value}
+use Rattle.ssa_check.specs.Lowest.{lowest_value}
 use Rattle.ssa_check.specs.ValueChecks.{types_hold}
 use Rattle.ssa_check.proofs.PlaceLemmas.{value_place}
 

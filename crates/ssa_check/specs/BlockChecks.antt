@@ -10,15 +10,15 @@ use Rattle.ssa_ir.specs.declared.func.Func.{Func}
 use Rattle.ssa_ir.specs.declared.func.Kind.{Kind}
 use Rattle.ssa_ir.specs.declared.func.Kind.TheVariants.{Plain, If, Ret, Exit}
 use Rattle.ssa_ir.specs.declared.func.Value.{Value}
-use Rattle.ssa_ir.specs.Edges.{same_block}
+use Rattle.ssa_ir.specs.Edges.{same_block, is_entry}
 use Rattle.ssa_ir.specs.FirstOrder.{has_value, same_value}
 use Rattle.ssa_ir.specs.Limits.{tuple_words}
 use Rattle.ssa_ir.specs.Lookups.{value_of, values_of}
-use Rattle.ssa_check.specs.declared.classes.Class.TheVariants.{Bool as BoolClass, Memory}
+use Rattle.ssa_ir.specs.declared.classes.Class.TheVariants.{Bool as BoolClass, Memory}
+use Rattle.ssa_ir.specs.OpKinds.{is_result}
 use Rattle.ssa_check.specs.CalleeCheck.{classes}
-use Rattle.ssa_check.specs.Classes.{same_class}
+use Rattle.ssa_ir.specs.Classes.{same_class}
 use Rattle.ssa_check.specs.OpTypes.{are, before_last, class_at, classes_of}
-use Rattle.ssa_check.specs.ValueChecks.{is_entry}
 
 -- ---- the entry
 
@@ -45,10 +45,6 @@ edges_hold f target = list_all (λ source. agree source target) f.blocks
 
 -- ---- controls
 
-abbrev pub is_result : Op → Bool
-is_result MakeResult = true
-is_result _ = false
-
 abbrev pub controls : ValueId → Option ValueId → Bool
 controls id None = false
 controls id (Some c) = same_value c id
@@ -67,7 +63,8 @@ has_results f (Some v) =
     && are (classes_of f (before_last v.args)) (classes f.sig.results)
     && are (classes (tuple_words v.ty)) (classes f.sig.results)
 
--- whether a control is what the kind of block takes: a bool; a MakeResult of the block itself that nothing else uses; a memory
+-- whether a control is what the kind of block takes: a bool; a MakeResult of the block itself that nothing else uses; a
+-- memory
 abbrev pub takes : Func → Block → Kind → Option ValueId → Bool
 takes f b Plain control = true
 takes f b If (Some id) = same_class (class_at f id) BoolClass

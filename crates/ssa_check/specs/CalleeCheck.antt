@@ -1,5 +1,6 @@
 -- What the check of calls and their selects asks: both are those of the callee's signature.
-use Rattle.std.specs.Prelude.{ℕ, ℤ, pos, negsuc, Bool, false, not, ◌&&◌, ◌||◌, List, [], ◌∷◌, ◌++◌, map, Option, None, Some, slice_get}
+use Rattle.std.specs.Prelude.{ℕ, ℤ, pos, negsuc, Bool, false, not, ◌&&◌, ◌||◌, List, [], ◌∷◌, ◌++◌, map, Option, None}
+use Rattle.std.specs.Prelude.{Some, slice_get}
 use Rattle.std.specs.List.{list_any}
 use Rattle.std.specs.Ordering.{int_eq}
 use Rattle.gossa_base.specs.declared.ids.ValueId.{ValueId}
@@ -9,12 +10,13 @@ use Rattle.ssa_ir.specs.declared.func.Block.{Block}
 use Rattle.ssa_ir.specs.declared.func.Func.{Func}
 use Rattle.ssa_ir.specs.declared.func.SsaUnit.{SsaUnit}
 use Rattle.ssa_ir.specs.declared.func.Value.{Value}
-use Rattle.ssa_ir.specs.FirstOrder.{has_value, is_call, is_follower, selects}
+use Rattle.ssa_ir.specs.FirstOrder.{has_value, selects}
+use Rattle.ssa_ir.specs.OpKinds.{is_call, is_follower}
 use Rattle.ssa_ir.specs.Limits.{tuple_words}
-use Rattle.ssa_ir.specs.Lookups.{sig_of, value_of, values_of}
-use Rattle.ssa_check.specs.declared.classes.Class.{Class}
-use Rattle.ssa_check.specs.declared.classes.Class.TheVariants.{Memory}
-use Rattle.ssa_check.specs.Classes.{class_of, class_of_scalar, same_class}
+use Rattle.ssa_ir.specs.Lookups.{sig_of, value_of, values_of, named_by}
+use Rattle.ssa_ir.specs.declared.classes.Class.{Class}
+use Rattle.ssa_ir.specs.declared.classes.Class.TheVariants.{Memory}
+use Rattle.ssa_ir.specs.Classes.{class_of, class_of_scalar, same_class, is_memory}
 use Rattle.ssa_check.specs.OpTypes.{are, before_last, classes_of}
 use Rattle.ssa_check.specs.ValueChecks.{is_lower}
 
@@ -25,14 +27,12 @@ classes types = map class_of_scalar types
 abbrev pub matches : Func → Value → Option Sig → Bool
 matches f v None = false
 matches f v (Some sig) =
-    are (classes_of f (before_last v.args)) (classes sig.params) && are (classes (tuple_words v.ty)) (classes sig.results)
+    are (classes_of f (before_last v.args)) (classes sig.params)
+    && are (classes (tuple_words v.ty)) (classes sig.results)
 
 abbrev pub callee : SsaUnit → Option (List ℕ) → Option Sig
 callee u None = None
 callee u (Some name) = sig_of u name
-
-abbrev pub is_memory : Value → Bool
-is_memory v = same_class (class_of v.ty) Memory
 
 -- some select of type mem names the call, in any block and with any index
 abbrev pub has_memory_select : Func → Value → Bool
@@ -55,8 +55,8 @@ is_class v (Some c) = same_class (class_of v.ty) c
 abbrev pub has_lower_twin : Func → (call : ValueId) → Value → Bool
 has_lower_twin f call v = list_any (λ s. selects call s && int_eq s.aux v.aux && is_lower s v) (values_of f)
 
--- a select stands in the block of its call, and has an index and the class of the call's own tuple; no other one of its index
--- has a lower number
+-- a select stands in the block of its call, and has an index and the class of the call's own tuple; no other one of its
+-- index has a lower number
 abbrev pub selects_of_call : Func → Block → Value → (call : Value) → Bool
 selects_of_call f b v call =
     is_call call.op
@@ -67,11 +67,6 @@ selects_of_call f b v call =
 abbrev pub selects_of : Func → Block → Value → Option Value → Bool
 selects_of f b v None = false
 selects_of f b v (Some call) = selects_of_call f b v call
-
--- the value that a select names
-abbrev pub named_by : Func → List ValueId → Option Value
-named_by f [] = None
-named_by f (a ∷ args) = value_of f a
 
 abbrev pub select_holds : Func → Block → Value → Bool
 select_holds f b v = selects_of f b v (named_by f v.args)

@@ -1,5 +1,6 @@
 -- The inner definers of a block with the memory that each takes, and what a walk back along them finds.
-use Rattle.std.specs.Prelude.{ℕ, zero, suc, ◌-◌, nat_eq, Bool, false, not, if◌then◌else◌, List, [], ◌∷◌, length, map, find, Option, None, Some, is_some}
+use Rattle.std.specs.Prelude.{ℕ, zero, suc, ◌-◌, nat_eq, Bool, false, not, if◌then◌else◌, List, [], ◌∷◌, length, map}
+use Rattle.std.specs.Prelude.{find, Option, None, Some, is_some}
 use Rattle.std.specs.List.{flat_map, list_any}
 use Rattle.std.specs.Map.{lookup}
 use Rattle.std.specs.Option.{is_none, option_map}
@@ -11,7 +12,7 @@ use Rattle.ssa_ir.specs.FirstOrder.{same_memory}
 use Rattle.ssa_check.specs.declared.chains.Link.{Link}
 use Rattle.ssa_check.specs.declared.memories.Leaves.{Leaves}
 use Rattle.ssa_check.specs.declared.memories.Leaves.TheVariants.{Known, Unknown}
-use Rattle.ssa_check.specs.MemoryChains.{is_inner, taken_by}
+use Rattle.ssa_ir.specs.MemoryChains.{is_inner, taken_by}
 
 abbrev pub link_of : Func → Value → List Link
 link_of f v = if is_inner v then record { id = v.id; taken = taken_by f v } ∷ [] else []

@@ -1,7 +1,8 @@
 -- The names of checks, as a refusal tells them.
 use Rattle.std.specs.Prelude.{ℕ, List, codes}
 use Rattle.ssa_check.specs.declared.refusal.Check.{Check}
-use Rattle.ssa_check.specs.declared.refusal.Check.TheVariants.{Entry, Edges, PhiArity, Arity, Types, ArgOrInit, Callee, Memory, Cycle, Undefined, Control}
+use Rattle.ssa_check.specs.declared.refusal.Check.TheVariants.{Entry, Edges, PhiArity, Arity, Types, ArgOrInit, Callee}
+use Rattle.ssa_check.specs.declared.refusal.Check.TheVariants.{Memory, Cycle, Undefined, Control}
 
 abbrev pub name_of : Check → List ℕ
 name_of Entry = codes "Entry"

@@ -41,4 +41,5 @@ common_len left right = common_prefix_len same_edge left right
 
 -- the lower target behind those that are alike
 abbrev pub first_difference : List Edge → List Edge → Option ℕ
-first_difference left right = lower_target (slice_get left (common_len left right)) (slice_get right (common_len left right))
+first_difference left right =
+    lower_target (slice_get left (common_len left right)) (slice_get right (common_len left right))

@@ -8,15 +8,16 @@ use Rattle.ssa_ir.specs.declared.func.Value.{Value}
 use Rattle.ssa_check.specs.declared.refusal.At.{At}
 use Rattle.ssa_check.specs.declared.refusal.At.TheVariants.{Func as AtFunc, Value as AtValue, Block as AtBlock}
 use Rattle.ssa_check.specs.declared.refusal.Check.{Check}
-use Rattle.ssa_check.specs.declared.refusal.Check.TheVariants.{Entry, Edges, PhiArity, Arity, Types, ArgOrInit, Callee, Memory, Cycle, Undefined, Control}
+use Rattle.ssa_check.specs.declared.refusal.Check.TheVariants.{Entry, Edges, PhiArity, Arity, Types, ArgOrInit, Callee}
+use Rattle.ssa_check.specs.declared.refusal.Check.TheVariants.{Memory, Cycle, Undefined, Control}
 use Rattle.ssa_check.specs.declared.refusal.CheckRefusal.{CheckRefusal}
 use Rattle.ssa_check.specs.declared.refusal.CheckRefusal.TheVariants.{Failed, NoMemory}
 use Rattle.ssa_check.specs.declared.refusal.Fault.{Fault}
 use Rattle.ssa_check.specs.BlockChecks.{control_holds, edges_hold, entry_holds, has_blocks}
 use Rattle.ssa_check.specs.CalleeCheck.{callee_holds}
-use Rattle.ssa_check.specs.Cycles.{OnCycle}
-use Rattle.ssa_check.specs.Definedness.{ControlMisses, ValueMisses}
-use Rattle.ssa_check.specs.MemoryPaths.{MemoryBlockFails, MemoryValueFails}
+use Rattle.ssa_ir.specs.Cycles.{OnCycle}
+use Rattle.ssa_ir.specs.Definedness.{ControlMisses, ValueMisses}
+use Rattle.ssa_ir.specs.MemoryPaths.{MemoryBlockFails, MemoryValueFails}
 use Rattle.ssa_check.specs.ValueChecks.{arg_or_init_holds, arity_holds, has_init, phi_holds, types_hold}
 
 -- the function itself fails
@@ -49,7 +50,8 @@ BlockFails _ u f b = ⊥
 -- a place of a function fails a check
 abbrev pub FailsAt : Check → SsaUnit → Func → At → Type 0
 FailsAt c u f AtFunc = FuncFails c u f
-FailsAt c u f (AtValue id) = Any (λ (b : Block). Any (λ (v : Value). (v.id ≡ id) × ValueFails c u f b v) b.values) f.blocks
+FailsAt c u f (AtValue id) =
+    Any (λ (b : Block). Any (λ (v : Value). (v.id ≡ id) × ValueFails c u f b v) b.values) f.blocks
 FailsAt c u f (AtBlock id) = Any (λ (b : Block). (b.id ≡ id) × BlockFails c u f b) f.blocks
 
 -- the order of places: the function, its values by number, its blocks by number

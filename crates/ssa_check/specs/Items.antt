@@ -1,16 +1,18 @@
 -- The items of a block by the indexes of their first values, the edges between them, and the least number on a cycle.
-use Rattle.std.specs.Prelude.{◌≡◌, ◌≢◌, ℕ, suc, ◌+◌, ◌==◌, nat_lt, ◌≤◌, Bool, true, false, if◌then◌else◌, List, [], ◌∷◌, ◌++◌, length, Option, None, Some, slice_get}
+use Rattle.std.specs.Prelude.{◌≡◌, ◌≢◌, ℕ, suc, ◌+◌, ◌==◌, nat_lt, ◌≤◌, Bool, true, false, if◌then◌else◌, List, [], ◌∷◌}
+use Rattle.std.specs.Prelude.{◌++◌, length, Option, None, Some, slice_get}
 use Rattle.std.specs.List.{All, AllPairs, Any, flat_map}
 use Rattle.std.specs.Option.{option_or}
 use Rattle.gossa_base.specs.declared.ids.ValueId.{ValueId}
 use Rattle.ssa_ir.specs.declared.op.Op.{Op}
 use Rattle.ssa_ir.specs.declared.func.Value.{Value}
-use Rattle.ssa_ir.specs.FirstOrder.{changes_memory, is_call, is_follower, is_phi, memory_taken, reads_memory, same_memory, same_value}
+use Rattle.ssa_ir.specs.FirstOrder.{memory_taken, same_memory, same_value}
+use Rattle.ssa_ir.specs.OpKinds.{changes_memory, is_call, is_follower, is_phi, reads_memory}
 use Rattle.graphs.specs.declared.graph.Edge.{Edge}
 use Rattle.graphs.specs.declared.loops.Named.{Named}
-use Rattle.ssa_check.specs.declared.values.Place.{Place}
-use Rattle.ssa_check.specs.Cycles.{OnCycle}
-use Rattle.ssa_check.specs.Tables.{place_in}
+use Rattle.ssa_tables.specs.declared.values.Place.{Place}
+use Rattle.ssa_ir.specs.Cycles.{OnCycle}
+use Rattle.ssa_tables.specs.Places.{place_in}
 
 -- ---- indexes
 
@@ -46,8 +48,8 @@ abbrev pub call_named : (block : List Value) → List ValueId → Option ℕ
 call_named block [] = None
 call_named block (a ∷ args) = where_call block (index_of block a)
 
--- the index of the first value of the item of a value, which stands at index i: a phi is of none, a select of a call of the block
--- is of the call's, and any other value is the first of its own
+-- the index of the first value of the item of a value, which stands at index i: a phi is of none, a select of a call of
+-- the block is of the call's, and any other value is the first of its own
 abbrev pub owner_of : (block : List Value) → (i : ℕ) → Value → Option ℕ
 owner_of block i v =
     if is_phi v.op then None else (if is_follower v.op then option_or (call_named block v.args) (Some i) else Some i)

@@ -6,7 +6,7 @@ use Rattle.ssa_ir.specs.declared.func.Func.{Func}
 use Rattle.ssa_ir.specs.declared.func.Value.{Value}
 use Rattle.ssa_check.specs.declared.refusal.At.{At}
 use Rattle.ssa_check.specs.Failing.{at_block, at_value}
-use Rattle.ssa_check.specs.Tables.{lowest_block, lowest_value}
+use Rattle.ssa_check.specs.Lowest.{lowest_block, lowest_value}
 
 -- the lowest value that fails its test, or else the lowest block that fails its own
 abbrev pub least_place : (Block → Value → Bool) → (Block → Bool) → Func → Option At

@@ -1,9 +1,10 @@
 -- How the memory passed on paths is found: at first no path is known, and sweeps over all blocks take in what comes.
-use Rattle.std.specs.Prelude.{◌≡◌, ◌≢◌, ℕ, zero, suc, ◌<◌, Bool, true, false, if◌then◌else◌, List, ◌∷◌, length, fold, Option, Some, slice_index_or, slice_set}
+use Rattle.std.specs.Prelude.{◌≡◌, ◌≢◌, ℕ, zero, suc, ◌<◌, Bool, true, false, if◌then◌else◌, List, ◌∷◌, length, fold}
+use Rattle.std.specs.Prelude.{Option, Some, slice_index_or, slice_set}
 use Rattle.std.specs.List.{sum_by}
 use Rattle.gossa_base.specs.declared.ids.ValueId.{ValueId}
 use Rattle.ssa_ir.specs.FirstOrder.{same_value}
-use Rattle.ssa_check.specs.Flow.{IsIndexPath, preds_at}
+use Rattle.ssa_tables.specs.Blocks.{IsIndexPath, preds_at}
 use Rattle.ssa_check.specs.PassedMemories.{memory_on}
 use Rattle.ssa_check.specs.declared.memories.Leaves.{Leaves}
 use Rattle.ssa_check.specs.declared.memories.Leaves.TheVariants.{Through, Known, Unknown}
@@ -50,10 +51,11 @@ next_of preds leaves passed b =
 -- ---- what paths show
 
 -- some path to block b has this memory, by a function of what stands before the block on it
-pub record Brings (preds : List (List ℕ)) (had : List ℕ → Option ValueId) (b : ℕ) (memory : Option ValueId) : Type 0 where
-  pub before : List ℕ
-  pub is_path : IsIndexPath preds (b ∷ before)
-  pub same : had before ≡ memory
+pub record Brings (preds : List (List ℕ)) (had : List ℕ → Option ValueId) (b : ℕ) (memory : Option ValueId) : Type 0
+  where
+    pub before : List ℕ
+    pub is_path : IsIndexPath preds (b ∷ before)
+    pub same : had before ≡ memory
 
 -- one is brought
 pub record BringsSome (Brought : Option ValueId → Type 0) : Type 0 where

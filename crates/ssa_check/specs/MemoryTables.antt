@@ -1,27 +1,28 @@
 -- What the check of memory finds of each block, by the paths to it and what it leaves, and its tests by that.
-use Rattle.std.specs.Prelude.{◌≡◌, ℕ, Bool, true, false, not, ◌&&◌, ◌||◌, if◌then◌else◌, List, [], ◌∷◌, length, find, is_none, is_some, Option, None, Some, slice_get, slice_index_or}
+use Rattle.std.specs.Prelude.{◌≡◌, ℕ, Bool, true, false, not, ◌&&◌, ◌||◌, if◌then◌else◌, List, [], ◌∷◌, length, find}
+use Rattle.std.specs.Prelude.{is_none, is_some, Option, None, Some, slice_get, slice_index_or}
 use Rattle.std.specs.List.{last_or, list_any}
 use Rattle.std.specs.Option.{option_map, option_or}
 use Rattle.gossa_base.specs.declared.ids.ValueId.{ValueId}
 use Rattle.ssa_ir.specs.declared.func.Block.{Block}
 use Rattle.ssa_ir.specs.declared.func.Func.{Func}
 use Rattle.ssa_ir.specs.declared.func.Value.{Value}
-use Rattle.ssa_ir.specs.FirstOrder.{reads_memory, same_memory, same_value}
+use Rattle.ssa_ir.specs.FirstOrder.{same_memory, same_value}
+use Rattle.ssa_ir.specs.OpKinds.{reads_memory, is_init, is_result}
 use Rattle.ssa_check.specs.declared.memories.Leaves.{Leaves}
 use Rattle.ssa_check.specs.declared.memories.Leaves.TheVariants.{Through, Unknown}
 use Rattle.ssa_check.specs.declared.memories.Passed.{Passed}
 use Rattle.ssa_check.specs.declared.memories.Passed.TheVariants.{NoPath, Always, Varies}
 use Rattle.ssa_check.specs.declared.memory.BlockMemory.{BlockMemory}
 use Rattle.ssa_check.specs.declared.refusal.At.{At}
-use Rattle.ssa_check.specs.BlockChecks.{is_result}
 use Rattle.ssa_check.specs.ChainTables.{LeavesOf}
 use Rattle.ssa_check.specs.Failing.{at_block, at_value}
-use Rattle.ssa_check.specs.Flow.{index_in, preds_at, preds_of}
-use Rattle.ssa_check.specs.MemoryChains.{inner_of, is_inner, is_memory_phi, takes, takes_inner}
-use Rattle.ssa_check.specs.MemoryPaths.{AllPass, is_exit, uses_memory}
+use Rattle.ssa_tables.specs.Blocks.{index_in, preds_at, preds_of}
+use Rattle.ssa_ir.specs.MemoryChains.{inner_of, is_inner, is_memory_phi, takes, takes_inner}
+use Rattle.ssa_ir.specs.MemoryPaths.{AllPass, is_exit, uses_memory}
 use Rattle.ssa_check.specs.PassedMemories.{left_by}
-use Rattle.ssa_check.specs.Paths.{Reached}
-use Rattle.ssa_check.specs.ValueChecks.{is_entry, is_init}
+use Rattle.ssa_ir.specs.Paths.{Reached}
+use Rattle.ssa_ir.specs.Edges.{is_entry}
 
 -- ---- what is found of a block
 

@@ -4,16 +4,21 @@ use Rattle.std.specs.Cmp.Lexicographic.{pointwise}
 use Rattle.std.specs.List.{list_all}
 use Rattle.gossa_base.specs.declared.ids.ValueId.{ValueId}
 use Rattle.ssa_ir.specs.declared.op.Op.{Op}
-use Rattle.ssa_ir.specs.declared.op.Op.TheVariants.{Add, Sub, Mul, And, Or, Xor, Neg, Com, Div, DivU, Mod, ModU, Lsh, Rsh, RshU, Eq, Neq, Less, Leq, LessU, LeqU, EqB, NeqB, AndB, OrB, Not, EqPtr, NeqPtr, IsNonNil, IsInBounds, IsSliceInBounds, SignExt, ZeroExt, Trunc, AddPtr, OffPtr, Load, Store, NilCheck, CondSelect, Const, ConstBool, ConstNil, SB, Addr, Phi, Copy, Arg, InitMem, StaticLECall, SelectN, MakeResult}
+use Rattle.ssa_ir.specs.declared.op.Op.TheVariants.{Add, Sub, Mul, And, Or, Xor, Neg, Com, Div, DivU, Mod, ModU, Lsh}
+use Rattle.ssa_ir.specs.declared.op.Op.TheVariants.{Rsh, RshU, Eq, Neq, Less, Leq, LessU, LeqU, EqB, NeqB, AndB, OrB}
+use Rattle.ssa_ir.specs.declared.op.Op.TheVariants.{Not, EqPtr, NeqPtr, IsNonNil, IsInBounds, IsSliceInBounds, SignExt}
+use Rattle.ssa_ir.specs.declared.op.Op.TheVariants.{ZeroExt, Trunc, AddPtr, OffPtr, Load, Store, NilCheck, CondSelect}
+use Rattle.ssa_ir.specs.declared.op.Op.TheVariants.{Const, ConstBool, ConstNil, SB, Addr, Phi, Copy, Arg, InitMem}
+use Rattle.ssa_ir.specs.declared.op.Op.TheVariants.{StaticLECall, SelectN, MakeResult}
 use Rattle.ssa_ir.specs.declared.op.Width.TheVariants.{W64}
 use Rattle.ssa_ir.specs.declared.types.Scalar.{Scalar}
 use Rattle.ssa_ir.specs.declared.func.Func.{Func}
 use Rattle.ssa_ir.specs.declared.func.Value.{Value}
 use Rattle.ssa_ir.specs.Lookups.{value_of}
 use Rattle.ssa_ir.specs.Widths.{narrow_of, wide_of}
-use Rattle.ssa_check.specs.declared.classes.Class.{Class}
-use Rattle.ssa_check.specs.declared.classes.Class.TheVariants.{Int, Bool as BoolClass, Pointer, Memory, Tuple, Neither}
-use Rattle.ssa_check.specs.Classes.{class_of, class_of_scalar, is_scalar, same_class}
+use Rattle.ssa_ir.specs.declared.classes.Class.{Class}
+use Rattle.ssa_ir.specs.declared.classes.Class.TheVariants.{Int, Bool as BoolClass, Pointer, Memory, Tuple, Neither}
+use Rattle.ssa_ir.specs.Classes.{class_of, class_of_scalar, is_scalar, same_class}
 
 -- what an op asks of classes. How many arguments a Copy, an Addr or a Phi has is asked by itself
 pub data Asks : Type 0 where

@@ -1,7 +1,7 @@
 -- The memory that paths of indexes pass, by what each block leaves.
 use Rattle.std.specs.Prelude.{◌≡◌, ◌≢◌, ℕ, ◌<◌, List, [], ◌∷◌, length, Option, None, Some, slice_index_or}
 use Rattle.gossa_base.specs.declared.ids.ValueId.{ValueId}
-use Rattle.ssa_check.specs.Flow.{IsIndexPath}
+use Rattle.ssa_tables.specs.Blocks.{IsIndexPath}
 use Rattle.ssa_check.specs.declared.memories.Leaves.{Leaves}
 use Rattle.ssa_check.specs.declared.memories.Leaves.TheVariants.{Through, Known, Unknown}
 use Rattle.ssa_check.specs.declared.memories.Passed.{Passed}

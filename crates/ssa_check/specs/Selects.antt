@@ -1,16 +1,18 @@
 -- What is noted of the selects of a function: which values a select of type mem names, and the lowest select of each
 -- index of a value.
-use Rattle.std.specs.Prelude.{◌≡◌, ℕ, ℤ, nat_eq, nat_lt, Bool, false, ◌&&◌, List, [], map, Option, None, Some, if◌then◌else◌}
+use Rattle.std.specs.Prelude.{◌≡◌, ℕ, ℤ, nat_eq, nat_lt, Bool, false, ◌&&◌, List, [], map, Option, None, Some}
+use Rattle.std.specs.Prelude.{if◌then◌else◌}
 use Rattle.std.specs.List.{flat_map, fold, list_any}
 use Rattle.std.specs.Map.{lookup}
 use Rattle.std.specs.Ordering.{int_eq}
 use Rattle.gossa_base.specs.declared.ids.ValueId.{ValueId}
 use Rattle.ssa_ir.specs.declared.func.Value.{Value}
-use Rattle.ssa_ir.specs.FirstOrder.{is_follower, same_value}
+use Rattle.ssa_ir.specs.FirstOrder.{same_value}
+use Rattle.ssa_ir.specs.OpKinds.{is_follower}
 use Rattle.ssa_check.specs.declared.callees.SelectKey.{SelectKey}
 use Rattle.ssa_check.specs.declared.callees.SelectTable.{SelectTable}
-use Rattle.ssa_check.specs.CalleeCheck.{is_memory}
-use Rattle.ssa_check.specs.Tables.{lower_where}
+use Rattle.ssa_ir.specs.Classes.{is_memory}
+use Rattle.ssa_check.specs.Lowest.{lower_where}
 
 -- what a value names, if it is a select: each of its arguments
 abbrev pub picks_by : Value → List (ValueId × Value)

@@ -1,5 +1,6 @@
 -- What the checks of values by themselves and of their arguments ask: which values are as they must be.
-use Rattle.std.specs.Prelude.{ℕ, ℤ, pos, negsuc, ◌==◌, nat_lt, Bool, true, false, not, ◌&&◌, ◌||◌, List, [], ◌∷◌, length, Option, None, Some, slice_get}
+use Rattle.std.specs.Prelude.{ℕ, ℤ, pos, negsuc, ◌==◌, nat_lt, Bool, true, false, not, ◌&&◌, ◌||◌, List, [], ◌∷◌}
+use Rattle.std.specs.Prelude.{length, Option, None, Some, slice_get}
 use Rattle.std.specs.List.{list_any}
 use Rattle.std.specs.Ordering.{int_eq}
 use Rattle.ssa_ir.specs.declared.op.Arity.{Arity}
@@ -10,20 +11,12 @@ use Rattle.ssa_ir.specs.declared.types.Scalar.{Scalar}
 use Rattle.ssa_ir.specs.declared.func.Block.{Block}
 use Rattle.ssa_ir.specs.declared.func.Func.{Func}
 use Rattle.ssa_ir.specs.declared.func.Value.{Value}
-use Rattle.ssa_ir.specs.Edges.{same_block}
-use Rattle.ssa_ir.specs.FirstOrder.{is_phi}
+use Rattle.ssa_ir.specs.Edges.{same_block, is_entry}
+use Rattle.ssa_ir.specs.OpKinds.{is_phi, is_arg, is_init}
 use Rattle.ssa_ir.specs.Lookups.{values_of}
 use Rattle.ssa_ir.specs.Ops.{row_of}
-use Rattle.ssa_check.specs.Classes.{class_of, class_of_scalar, same_class}
+use Rattle.ssa_ir.specs.Classes.{class_of, class_of_scalar, same_class}
 use Rattle.ssa_check.specs.OpTypes.{asks, has_classes}
-
--- the entry is the first block
-abbrev pub is_first_of : List Block → Block → Bool
-is_first_of [] b = false
-is_first_of (entry ∷ blocks) b = same_block entry.id b.id
-
-abbrev pub is_entry : Func → Block → Bool
-is_entry f b = is_first_of f.blocks b
 
 -- ---- the number of arguments
 
@@ -47,14 +40,6 @@ types_hold f v = has_classes f v (asks v.op)
 
 -- ---- parameters and the memory at the entry
 
-abbrev pub is_arg : Op → Bool
-is_arg Arg = true
-is_arg _ = false
-
-abbrev pub is_init : Op → Bool
-is_init InitMem = true
-is_init _ = false
-
 abbrev pub is_lower : Value → Value → Bool
 is_lower u v = nat_lt u.id.0 v.id.0
 
@@ -75,8 +60,8 @@ abbrev pub parameter : Func → ℤ → Option Scalar
 parameter f (pos i) = slice_get f.sig.params i
 parameter f (negsuc i) = None
 
--- an Arg stands in the entry, and has the number of a parameter and its class; no other Arg of its number has a lower one of
--- its own
+-- an Arg stands in the entry, and has the number of a parameter and its class; no other Arg of its number has a lower
+-- one of its own
 abbrev pub arg_holds : Func → Block → Value → Bool
 arg_holds f b v =
     is_entry f b

@@ -5,10 +5,10 @@ ghost use Rattle.ssa_ir.specs.declared.func.SsaUnit.{SsaUnit as IrUnit};
 ghost use Rattle.ssa_ir.specs.WellFormed.{WellFormedFunc};
 ghost use Rattle.ssa_check.specs.declared.refusal.Check.TheVariants as check;
 ghost use Rattle.ssa_check.specs.Failing.{Meets, LeastPlace};
-ghost use Rattle.ssa_check.specs.ValueChecks.{phi_holds, arity_holds, is_first_of};
+ghost use Rattle.ssa_check.specs.ValueChecks.{phi_holds, arity_holds};
+ghost use Rattle.ssa_ir.specs.Edges.{is_first_of};
 
 use crate::lowest::{ValueTest, lowest_value, value_place};
-use crate::ops::is_phi;
 use crate::refusal::At;
 use ssa_ir::{Arity, Block, Func, Value, op_row};
 
@@ -34,7 +34,7 @@ impl ValueTest for PhiTest<'_> {
     ghost fails = { λ t b v. not (phi_holds t.func.now b v) };
 
     fn fails_at(&self, block: &Block, value: &Value) -> bool {
-        is_phi(value.op)
+        value.op.is_phi()
             && (is_first(self.func.blocks.as_slice(), block)
                 || value.args.as_slice().len() != block.preds.as_slice().len())
     }

@@ -1,31 +1,31 @@
 // Calls and their selects.
 
-ghost use Rattle.std.specs.Prelude.{◌≡◌, ℤ, nat_eq, ◌||◌, not, [], ◌∷◌, ◌++◌, List, Some, Contains, MatchOption, IfOk, OnOk};
+ghost use Rattle.std.specs.Prelude.{◌≡◌, ℤ, nat_eq, ◌||◌, not, [], ◌∷◌, ◌++◌, List, Some, Contains, MatchOption, IfOk};
+ghost use Rattle.std.specs.Prelude.{OnOk};
 ghost use Rattle.std.specs.List.{list_any};
 ghost use Rattle.std.specs.Map.{lookup};
 ghost use Rattle.ssa_ir.specs.declared.func.Value.{Value as IrValue};
 ghost use Rattle.ssa_ir.specs.FirstOrder as order;
 ghost use Rattle.ssa_ir.specs.Limits as limits;
 ghost use Rattle.ssa_ir.specs.Lookups.{values_of};
-ghost use Rattle.ssa_ir.specs.WellFormed.{WellFormedFunc};
 ghost use Rattle.ssa_check.specs.declared.refusal.Check.TheVariants as check;
 ghost use Rattle.ssa_check.specs.CalleeCheck as spec;
 ghost use Rattle.ssa_check.specs.Failing.{Meets, LeastPlace};
 ghost use Rattle.ssa_check.specs.OpTypes as ops;
-ghost use Rattle.ssa_check.specs.Selects.{picks_by, picks_of, is_memory_of, is_index_of, is_below, is_key, says_memory, says_lowest, TellsOf};
-ghost use Rattle.ssa_check.specs.SignatureTable.{names_of};
-ghost use Rattle.ssa_check.specs.Tables.{lower_where, places_of};
+ghost use Rattle.ssa_check.specs.Selects.{picks_by, picks_of, is_memory_of, is_index_of, is_below, is_key, says_memory};
+ghost use Rattle.ssa_check.specs.Selects.{says_lowest, TellsOf};
+ghost use Rattle.ssa_tables.specs.SignatureTable.{names_of};
+ghost use Rattle.ssa_check.specs.Lowest.{lower_where};
 
-use crate::classes::{Class, class_of, class_of_scalar, same_class};
 use crate::lowest::{ValueTest, lowest_value, value_place};
-use crate::ops::{is_call, is_select};
 use crate::refusal::At;
-use crate::signatures::SignatureTable;
 use crate::types::{before_last, class_at};
-use crate::values::ValueTable;
 use gossa_base::{NoMemory, ValueId};
 use indexmap::{IndexMap, IndexSet};
-use ssa_ir::{Block, Func, Scalar, Sig, SsaUnit, Ty, Value};
+use ssa_ir::{
+    Block, Class, Func, Scalar, Sig, SsaUnit, Ty, Value, class_of, class_of_scalar, same_class,
+};
+use ssa_tables::{FuncTables, SignatureTable};
 use std::alloc::Global;
 
 // An index of a value: what a select selects.
@@ -60,7 +60,8 @@ impl SelectTable {
 
     // Notes the selects among these values.
     fn put_values(&mut self, values: &[Value]) -> Result<(), NoMemory>
-        ensures { OnOk result ((picks : List (ValueId × IrValue)) → TellsOf picks self.old → TellsOf (picks ++ picks_of values.now) self.new) }
+        ensures { OnOk result ((picks : List (ValueId × IrValue)) → TellsOf picks self.old
+            → TellsOf (picks ++ picks_of values.now) self.new) }
     {
         for value in values {
             self.put_value(value)?;
@@ -70,9 +71,10 @@ impl SelectTable {
 
     // Notes a value, if it is a select: each of its arguments.
     fn put_value(&mut self, value: &Value) -> Result<(), NoMemory>
-        ensures { OnOk result ((picks : List (ValueId × IrValue)) → TellsOf picks self.old → TellsOf (picks ++ picks_by value.now) self.new) }
+        ensures { OnOk result ((picks : List (ValueId × IrValue)) → TellsOf picks self.old
+            → TellsOf (picks ++ picks_by value.now) self.new) }
     {
-        if !is_select(value.op) {
+        if !value.op.is_select() {
             return Ok(());
         }
         for id in value.args.as_slice() {
@@ -83,7 +85,8 @@ impl SelectTable {
 
     // Notes a select, and a value that it names.
     fn put(&mut self, id: ValueId, select: &Value) -> Result<(), NoMemory>
-        ensures { OnOk result ((picks : List (ValueId × IrValue)) → TellsOf picks self.old → TellsOf (picks ++ (id, select.now) ∷ []) self.new) }
+        ensures { OnOk result ((picks : List (ValueId × IrValue)) → TellsOf picks self.old
+            → TellsOf (picks ++ (id, select.now) ∷ []) self.new) }
     {
         note_memory(&mut self.memories, id, select)?;
         note_lowest(&mut self.lowest, id, select)
@@ -113,9 +116,10 @@ impl SelectTable {
 
 // Notes the value that a select names, if the select is of type mem.
 fn note_memory(memories: &mut IndexSet<u32>, id: ValueId, select: &Value) -> Result<(), NoMemory>
-    ensures { OnOk result ((other : ValueId) → list_any (nat_eq other.0) memories.new.keys ≡ (list_any (nat_eq other.0) memories.old.keys || is_memory_of other (id, select.now))) }
+    ensures { OnOk result ((other : ValueId) → list_any (nat_eq other.0) memories.new.keys
+        ≡ (list_any (nat_eq other.0) memories.old.keys || is_memory_of other (id, select.now))) }
 {
-    if same_class(class_of(&select.ty), Class::Memory) {
+    if select.is_memory() {
         memories.insert(id.0)?;
     }
     Ok(())
@@ -127,7 +131,10 @@ fn note_lowest(
     id: ValueId,
     select: &Value,
 ) -> Result<(), NoMemory>
-    ensures { OnOk result ((other : ValueId) (index : ℤ) → lookup (is_key other index) lowest.new.entries ≡ lower_where (is_index_of other index (id, select.now)) (lookup (is_key other index) lowest.old.entries) select.now.id.0) }
+    ensures { OnOk result ((other : ValueId) (index : ℤ)
+        → lookup (is_key other index) lowest.new.entries
+        ≡ lower_where (is_index_of other index (id, select.now)) (lookup (is_key other index) lowest.old.entries)
+        select.now.id.0) }
 {
     let key = SelectKey {
         value: id,
@@ -153,16 +160,14 @@ pub(crate) fn tuple_words(ty: &Ty) -> &[Scalar]
 }
 
 // Whether values have the classes of these types, one each.
-pub(crate) fn have_types(func: &Func, table: &ValueTable, ids: &[ValueId], types: &[Scalar]) -> bool
-    requires well_formed { WellFormedFunc func.now }
-    requires of_func { table.now ≡ places_of func.now }
-    ensures { result ≡ ops.are (ops.classes_of func.now ids.now) (spec.classes types.now) }
+pub(crate) fn have_types(tables: &FuncTables, ids: &[ValueId], types: &[Scalar]) -> bool
+    ensures { result ≡ ops.are (ops.classes_of tables.now ids.now) (spec.classes types.now) }
 {
     if ids.len() != types.len() {
         return false;
     }
     for (i, ty) in types.iter().enumerate() {
-        if !same_class(class_at(func, table, ids[i]), class_of_scalar(*ty)) {
+        if !same_class(class_at(tables, ids[i]), class_of_scalar(*ty)) {
             return false;
         }
     }
@@ -185,13 +190,11 @@ pub(crate) fn are_like(types: &[Scalar], asked: &[Scalar]) -> bool
 }
 
 // Whether a call has the parameters and the results of this signature.
-fn has_sig(func: &Func, table: &ValueTable, call: &Value, sig: &Sig) -> bool
-    requires well_formed { WellFormedFunc func.now }
-    requires of_func { table.now ≡ places_of func.now }
-    ensures { result ≡ spec.matches func.now call.now (Some sig.now) }
+fn has_sig(tables: &FuncTables, call: &Value, sig: &Sig) -> bool
+    ensures { result ≡ spec.matches tables.now call.now (Some sig.now) }
 {
     let args = before_last(call.args.as_slice());
-    have_types(func, table, args, sig.params.as_slice())
+    have_types(tables, args, sig.params.as_slice())
         && are_like(tuple_words(&call.ty), sig.results.as_slice())
 }
 
@@ -218,13 +221,12 @@ fn is_class(value: &Value, asked: Option<Class>) -> bool
 }
 
 // Whether the value of this number stands in this block.
-pub(crate) fn stands_in(func: &Func, table: &ValueTable, block: &Block, id: ValueId) -> bool
-    requires well_formed { WellFormedFunc func.now }
-    requires of_func { table.now ≡ places_of func.now }
-    requires of_block { Contains func.now.blocks block.now }
+pub(crate) fn stands_in(tables: &FuncTables, block: &Block, id: ValueId) -> bool
+    requires of_block { Contains tables.now.blocks block.now }
     ensures { result ≡ order.has_value block.now.values id }
 {
-    let Some(place) = table.place(id) else {
+    let func = tables.func();
+    let Some(place) = tables.place(id) else {
         return false;
     };
     match func.blocks.as_slice().get(place.block) {
@@ -238,41 +240,36 @@ pub(crate) fn stands_in(func: &Func, table: &ValueTable, block: &Block, id: Valu
 struct CalleeTest<'a> {
     unit: &'a SsaUnit,
     signatures: &'a SignatureTable,
-    func: &'a Func,
-    table: &'a ValueTable,
+    tables: &'a FuncTables<'a>,
     selects: &'a SelectTable,
 }
 
 impl CalleeTest<'_> {
     // Whether a call has a callee, and its parameters and results.
     fn has_callee(&self, call: &Value) -> bool
-        requires well_formed { WellFormedFunc self.now.func.now }
-        requires of_func { self.now.table.now ≡ places_of self.now.func.now }
         requires of_unit { self.now.signatures.now ≡ names_of self.now.unit.now }
-        ensures { result ≡ spec.matches self.now.func.now call.now (spec.callee self.now.unit.now call.now.sym) }
+        ensures { result ≡ spec.matches self.now.tables.now call.now (spec.callee self.now.unit.now call.now.sym) }
     {
         let Some(name) = &call.sym else {
             return false;
         };
         match self.signatures.sig(self.unit, name) {
-            Some(sig) => has_sig(self.func, self.table, call, sig),
+            Some(sig) => has_sig(self.tables, call, sig),
             None => false,
         }
     }
 
-    // Whether a select stands in the block of this call, and has an index and the class of the call's tuple there; no select
-    // of a lower number may have the same index.
+    // Whether a select stands in the block of this call, and has an index and the class of the call's tuple there; no
+    // select of a lower number may have the same index.
     fn selects_of_call(&self, block: &Block, select: &Value, call: &Value) -> bool
-        requires well_formed { WellFormedFunc self.now.func.now }
-        requires of_func { self.now.table.now ≡ places_of self.now.func.now }
-        requires of_block { Contains self.now.func.now.blocks block.now }
-        requires of_selects { TellsOf (picks_of (values_of self.now.func.now)) self.now.selects.now }
-        ensures { result ≡ spec.selects_of_call self.now.func.now block.now select.now call.now }
+        requires of_block { Contains self.now.tables.now.blocks block.now }
+        requires of_selects { TellsOf (picks_of (values_of self.now.tables.now)) self.now.selects.now }
+        ensures { result ≡ spec.selects_of_call self.now.tables.now block.now select.now call.now }
     {
-        if !is_call(call.op) {
+        if !call.op.is_call() {
             return false;
         }
-        if !stands_in(self.func, self.table, block, call.id) {
+        if !stands_in(self.tables, block, call.id) {
             return false;
         }
         let asked = result_class(tuple_words(&call.ty), select.aux);
@@ -281,16 +278,14 @@ impl CalleeTest<'_> {
 
     // Whether a select is one of a call.
     fn select_holds(&self, block: &Block, select: &Value) -> bool
-        requires well_formed { WellFormedFunc self.now.func.now }
-        requires of_func { self.now.table.now ≡ places_of self.now.func.now }
-        requires of_block { Contains self.now.func.now.blocks block.now }
-        requires of_selects { TellsOf (picks_of (values_of self.now.func.now)) self.now.selects.now }
-        ensures { result ≡ spec.select_holds self.now.func.now block.now select.now }
+        requires of_block { Contains self.now.tables.now.blocks block.now }
+        requires of_selects { TellsOf (picks_of (values_of self.now.tables.now)) self.now.selects.now }
+        ensures { result ≡ spec.select_holds self.now.tables.now block.now select.now }
     {
         let Some(id) = select.args.as_slice().first() else {
             return false;
         };
-        match self.table.value(self.func, *id) {
+        match self.tables.value(*id) {
             Some(call) => self.selects_of_call(block, select, call),
             None => false,
         }
@@ -298,26 +293,25 @@ impl CalleeTest<'_> {
 
     // Whether a call is one of its callee's signature, and the memory that it leaves is named.
     fn call_holds(&self, call: &Value) -> bool
-        requires well_formed { WellFormedFunc self.now.func.now }
-        requires of_func { self.now.table.now ≡ places_of self.now.func.now }
         requires of_unit { self.now.signatures.now ≡ names_of self.now.unit.now }
-        requires of_selects { TellsOf (picks_of (values_of self.now.func.now)) self.now.selects.now }
-        ensures { result ≡ spec.call_holds self.now.unit.now self.now.func.now call.now }
+        requires of_selects { TellsOf (picks_of (values_of self.now.tables.now)) self.now.selects.now }
+        ensures { result ≡ spec.call_holds self.now.unit.now self.now.tables.now call.now }
     {
         self.has_callee(call) && self.selects.has_memory_of(call.id)
     }
 }
 
 impl ValueTest for CalleeTest<'_> {
-    ghost takes = { λ t b v. WellFormedFunc t.func.now × (t.table.now ≡ places_of t.func.now) × (t.signatures.now ≡ names_of t.unit.now) × TellsOf (picks_of (values_of t.func.now)) t.selects.now × Contains t.func.now.blocks b };
+    ghost takes = { λ t b v. (t.signatures.now ≡ names_of t.unit.now)
+        × TellsOf (picks_of (values_of t.tables.now)) t.selects.now × Contains t.tables.now.blocks b };
 
-    ghost fails = { λ t b v. not (spec.callee_holds t.unit.now t.func.now b v) };
+    ghost fails = { λ t b v. not (spec.callee_holds t.unit.now t.tables.now b v) };
 
     fn fails_at(&self, block: &Block, value: &Value) -> bool {
-        if is_call(value.op) {
+        if value.op.is_call() {
             return !self.call_holds(value);
         }
-        is_select(value.op) && !self.select_holds(block, value)
+        value.op.is_select() && !self.select_holds(block, value)
     }
 }
 
@@ -326,20 +320,18 @@ pub(crate) fn callee_fault(
     alloc: Global,
     unit: &SsaUnit,
     signatures: &SignatureTable,
-    func: &Func,
-    table: &ValueTable,
+    tables: &FuncTables,
 ) -> Result<Option<At>, NoMemory>
-    requires well_formed { WellFormedFunc func.now }
-    requires of_func { table.now ≡ places_of func.now }
     requires of_unit { signatures.now ≡ names_of unit.now }
-    ensures { IfOk result (λ found. MatchOption found (Meets check.Callee unit.now func.now) (LeastPlace check.Callee unit.now func.now)) }
+    ensures { IfOk result (λ found. MatchOption found (Meets check.Callee unit.now tables.now)
+        (LeastPlace check.Callee unit.now tables.now)) }
 {
+    let func = tables.func();
     let selects = SelectTable::new(alloc, func)?;
     let test = CalleeTest {
         unit,
         signatures,
-        func,
-        table,
+        tables,
         selects: &selects,
     };
     Ok(value_place(lowest_value(func, &test)))

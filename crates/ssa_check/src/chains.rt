@@ -5,22 +5,16 @@ ghost use Rattle.std.specs.List.{list_any};
 ghost use Rattle.std.specs.Option.{option_map};
 ghost use Rattle.gossa_base.specs.declared.ids.ValueId.{ValueId as IrValueId};
 ghost use Rattle.indexmap.specs.IndexMap.{insert_all};
-ghost use Rattle.ssa_ir.specs.WellFormed.{WellFormedFunc};
 ghost use Rattle.ssa_check.specs.CalleeCheck as callee;
 ghost use Rattle.ssa_check.specs.ChainLinks as links;
 ghost use Rattle.ssa_check.specs.ChainTables.{LeavesOf};
-ghost use Rattle.ssa_check.specs.MemoryChains as spec;
-ghost use Rattle.ssa_check.specs.Tables.{places_of};
+ghost use Rattle.ssa_ir.specs.MemoryChains as spec;
 
-use crate::classes::{Class, class_of, same_class};
-use crate::items::memory_taken;
 use crate::memories::Leaves;
-use crate::ops::{is_phi, is_select};
-use crate::parameters::is_init;
-use crate::values::ValueTable;
 use gossa_base::{NoMemory, ValueId};
 use indexmap::{IndexMap, IndexSet};
-use ssa_ir::{Block, Func, Op, Value, op_row};
+use ssa_ir::{Block, Op, Value, op_row};
+use ssa_tables::FuncTables;
 use std::alloc::Global;
 
 /// An inner definer of a block, and the memory that it takes.
@@ -30,36 +24,30 @@ pub struct Link {
     pub taken: Option<ValueId>,
 }
 
-fn is_memory(value: &Value) -> bool
-    ensures { result ≡ callee.is_memory value.now }
-{
-    same_class(class_of(&value.ty), Class::Memory)
-}
-
 /// Whether a value is a phi of memories.
 pub(crate) fn is_memory_phi(value: &Value) -> bool
     ensures { result ≡ spec.is_memory_phi value.now }
 {
-    is_phi(value.op) && is_memory(value)
+    value.op.is_phi() && value.is_memory()
 }
 
 fn is_store(op: Op) -> bool
     ensures { result ≡ spec.is_store op }
 {
-    op_row(op).makes_mem && !is_init(op)
+    op_row(op).makes_mem && !op.is_init()
 }
 
 /// Whether a value takes one memory and leaves another: a store, or the select of a call's memory.
 pub(crate) fn is_inner(value: &Value) -> bool
     ensures { result ≡ spec.is_inner value.now }
 {
-    is_store(value.op) || (is_select(value.op) && is_memory(value))
+    is_store(value.op) || (value.op.is_select() && value.is_memory())
 }
 
 fn begins_memory(value: &Value) -> bool
     ensures { result ≡ spec.begins_memory value.now }
 {
-    is_init(value.op) || is_memory_phi(value)
+    value.op.is_init() || is_memory_phi(value)
 }
 
 fn is_definer(value: &Value) -> bool
@@ -69,19 +57,17 @@ fn is_definer(value: &Value) -> bool
 }
 
 /// The memory that a value takes to read or change it; a select takes that of its call.
-pub(crate) fn taken_by(func: &Func, table: &ValueTable, value: &Value) -> Option<ValueId>
-    requires well_formed { WellFormedFunc func.now }
-    requires of_func { table.now ≡ places_of func.now }
-    ensures { result ≡ spec.taken_by func.now value.now }
+pub(crate) fn taken_by(tables: &FuncTables, value: &Value) -> Option<ValueId>
+    ensures { result ≡ spec.taken_by tables.now value.now }
 {
-    if !is_select(value.op) {
-        return memory_taken(value);
+    if !value.op.is_select() {
+        return value.memory_taken();
     }
     let Some(id) = value.args.as_slice().first() else {
         return None;
     };
-    match table.value(func, *id) {
-        Some(call) => memory_taken(call),
+    match tables.value(*id) {
+        Some(call) => call.memory_taken(),
         None => None,
     }
 }
@@ -124,22 +110,15 @@ fn first_memory(values: &[Value]) -> Option<ValueId>
 }
 
 // The inner definers, in text order.
-fn inner_links(
-    alloc: Global,
-    func: &Func,
-    table: &ValueTable,
-    values: &[Value],
-) -> Result<Vec<Link>, NoMemory>
-    requires well_formed { WellFormedFunc func.now }
-    requires of_func { table.now ≡ places_of func.now }
-    ensures { IfOk result (λ found. found.items ≡ links.links_of func.now values.now) }
+fn inner_links(alloc: Global, tables: &FuncTables, values: &[Value]) -> Result<Vec<Link>, NoMemory>
+    ensures { IfOk result (λ found. found.items ≡ links.links_of tables.now values.now) }
 {
     let mut found = Vec::new(alloc);
     for value in values {
         if is_inner(value) {
             found.push(Link {
                 id: value.id,
-                taken: taken_by(func, table, value),
+                taken: taken_by(tables, value),
             })?;
         }
     }
@@ -148,7 +127,8 @@ fn inner_links(
 
 // The numbers of the memories that are taken.
 fn taken_numbers(alloc: Global, found: &[Link]) -> Result<IndexSet<u32>, NoMemory>
-    ensures { IfOk result (λ numbers. (id : IrValueId) → list_any (nat_eq id.0) numbers.keys ≡ links.is_taken id found.now) }
+    ensures { IfOk result (λ numbers. (id : IrValueId)
+        → list_any (nat_eq id.0) numbers.keys ≡ links.is_taken id found.now) }
 {
     let mut numbers = IndexSet::new(alloc);
     for link in found {
@@ -240,15 +220,13 @@ fn leaves(last: Option<ValueId>) -> Leaves
 /// What a block leaves of the memory that comes to it.
 pub(crate) fn block_leaves(
     alloc: Global,
-    func: &Func,
-    table: &ValueTable,
+    tables: &FuncTables,
     block: &Block,
 ) -> Result<Leaves, NoMemory>
-    requires well_formed { WellFormedFunc func.now }
-    requires of_func { table.now ≡ places_of func.now }
-    requires of_block { Contains func.now.blocks block.now }
-    ensures { IfOk result (LeavesOf func.now block.now) }
+    requires of_block { Contains tables.now.blocks block.now }
+    ensures { IfOk result (LeavesOf tables.now block.now) }
 {
+    let _well_formed = tables.func();
     let values = block.values.as_slice();
     if !has_definer(values) {
         return Ok(Leaves::Through);
@@ -256,7 +234,7 @@ pub(crate) fn block_leaves(
     if memory_phis(values) > 1 {
         return Ok(Leaves::Unknown);
     }
-    let found = inner_links(alloc, func, table, values)?;
+    let found = inner_links(alloc, tables, values)?;
     if found.is_empty() {
         return Ok(leaves(first_memory(values)));
     }

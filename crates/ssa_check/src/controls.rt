@@ -8,29 +8,27 @@ ghost use Rattle.ssa_ir.specs.declared.func.Kind.TheVariants as kind;
 ghost use Rattle.ssa_ir.specs.declared.func.SsaUnit.{SsaUnit as IrUnit};
 ghost use Rattle.ssa_ir.specs.FirstOrder.{same_value};
 ghost use Rattle.ssa_ir.specs.Lookups.{value_of};
-ghost use Rattle.ssa_ir.specs.WellFormed.{WellFormedFunc};
 ghost use Rattle.ssa_check.specs.declared.refusal.Check.TheVariants as check;
 ghost use Rattle.ssa_check.specs.BlockChecks as spec;
-ghost use Rattle.ssa_check.specs.Classes as classes;
+ghost use Rattle.ssa_ir.specs.Classes as classes;
 ghost use Rattle.ssa_check.specs.Failing.{Meets, LeastPlace};
 ghost use Rattle.ssa_check.specs.OpTypes as types;
-ghost use Rattle.ssa_check.specs.Tables.{places_of};
 ghost use Rattle.ssa_check.specs.Uses.{is_noted, is_taken, is_control, TellsOf};
 
 use crate::callees::{are_like, have_types, stands_in, tuple_words};
-use crate::classes::{Class, same_class};
 use crate::lowest::{BlockTest, lowest_block, place_of_block};
 use crate::refusal::At;
 use crate::types::{before_last, class_at};
-use crate::values::ValueTable;
 use gossa_base::{NoMemory, ValueId};
 use indexmap::IndexSet;
-use ssa_ir::{Block, Func, Kind, Op, Value};
+use ssa_ir::{Block, Class, Func, Kind, Value, same_class};
+use ssa_tables::FuncTables;
 use std::alloc::Global;
 
 // Puts the numbers of arguments among those noted.
 fn note_args(used: &mut IndexSet<u32>, args: &[ValueId]) -> Result<(), NoMemory>
-    ensures { OnOk result ((id : IrValueId) → is_noted id used.new.keys ≡ (is_noted id used.old.keys || list_any (same_value id) args.now)) }
+    ensures { OnOk result ((id : IrValueId) → is_noted id used.new.keys
+        ≡ (is_noted id used.old.keys || list_any (same_value id) args.now)) }
 {
     for arg in args {
         used.insert(arg.0)?;
@@ -40,7 +38,8 @@ fn note_args(used: &mut IndexSet<u32>, args: &[ValueId]) -> Result<(), NoMemory>
 
 // Puts the numbers of all arguments of values among those noted.
 fn note_values(used: &mut IndexSet<u32>, values: &[Value]) -> Result<(), NoMemory>
-    ensures { OnOk result ((id : IrValueId) → is_noted id used.new.keys ≡ (is_noted id used.old.keys || is_taken id values.now)) }
+    ensures { OnOk result ((id : IrValueId) → is_noted id used.new.keys
+        ≡ (is_noted id used.old.keys || is_taken id values.now)) }
 {
     for value in values {
         note_args(used, value.args.as_slice())?;
@@ -74,7 +73,8 @@ impl UseTable {
 
     // Takes note of one more block.
     fn note(&mut self, block: &Block) -> Result<(), NoMemory>
-        ensures { OnOk result ((blocks : List IrBlock) → TellsOf blocks self.old → TellsOf (blocks ++ block.now ∷ []) self.new) }
+        ensures { OnOk result ((blocks : List IrBlock) → TellsOf blocks self.old
+            → TellsOf (blocks ++ block.now ∷ []) self.new) }
     {
         note_values(&mut self.used, block.values.as_slice())?;
         let Some(id) = block.control else {
@@ -95,66 +95,51 @@ impl UseTable {
     }
 }
 
-/// Whether an op makes the results of its function.
-pub(crate) fn is_result(op: Op) -> bool
-    ensures { result ≡ spec.is_result op }
-{
-    matches!(op, Op::MakeResult)
-}
-
 // Whether a block ends by something else than what its kind takes.
 #[derive(Drop)]
 struct ControlTest<'a> {
-    func: &'a Func,
-    table: &'a ValueTable,
+    tables: &'a FuncTables<'a>,
     uses: &'a UseTable,
 }
 
 impl ControlTest<'_> {
     // Whether a value has a class.
     fn has_class(&self, id: ValueId, class: Class) -> bool
-        requires well_formed { WellFormedFunc self.now.func.now }
-        requires of_func { self.now.table.now ≡ places_of self.now.func.now }
-        ensures { result ≡ classes.same_class (types.class_at self.now.func.now id) class }
+        ensures { result ≡ classes.same_class (types.class_at self.now.tables.now id) class }
     {
-        same_class(class_at(self.func, self.table, id), class)
+        same_class(class_at(self.tables, id), class)
     }
 
     // Whether a value is a MakeResult of what the function returns.
     fn has_results(&self, id: ValueId) -> bool
-        requires well_formed { WellFormedFunc self.now.func.now }
-        requires of_func { self.now.table.now ≡ places_of self.now.func.now }
-        ensures { result ≡ spec.has_results self.now.func.now (value_of self.now.func.now id) }
+        ensures { result ≡ spec.has_results self.now.tables.now (value_of self.now.tables.now id) }
     {
-        let Some(value) = self.table.value(self.func, id) else {
+        let Some(value) = self.tables.value(id) else {
             return false;
         };
         let args = before_last(value.args.as_slice());
-        let results = self.func.sig.results.as_slice();
-        is_result(value.op)
-            && have_types(self.func, self.table, args, results)
+        let results = self.tables.func().sig.results.as_slice();
+        value.op.is_result()
+            && have_types(self.tables, args, results)
             && are_like(tuple_words(&value.ty), results)
     }
 
     // Whether a block that ends by this value may return it.
     fn may_return(&self, block: &Block, id: ValueId) -> bool
-        requires well_formed { WellFormedFunc self.now.func.now }
-        requires of_func { self.now.table.now ≡ places_of self.now.func.now }
-        requires of_uses { TellsOf self.now.func.now.blocks self.now.uses.now }
-        requires of_block { Contains self.now.func.now.blocks block.now }
+        requires of_uses { TellsOf self.now.tables.now.blocks self.now.uses.now }
+        requires of_block { Contains self.now.tables.now.blocks block.now }
         requires is_its { is_control id block.now ≡ true }
-        ensures { result ≡ spec.takes self.now.func.now block.now kind.Ret (Some id) }
+        ensures { result ≡ spec.takes self.now.tables.now block.now kind.Ret (Some id) }
     {
-        self.has_results(id)
-            && stands_in(self.func, self.table, block, id)
-            && !self.uses.is_used(id)
+        let _well_formed = self.tables.func();
+        self.has_results(id) && stands_in(self.tables, block, id) && !self.uses.is_used(id)
     }
 }
 
 impl BlockTest for ControlTest<'_> {
-    ghost takes = { λ t b. WellFormedFunc t.func.now × (t.table.now ≡ places_of t.func.now) × TellsOf t.func.now.blocks t.uses.now × Contains t.func.now.blocks b };
+    ghost takes = { λ t b. TellsOf t.tables.now.blocks t.uses.now × Contains t.tables.now.blocks b };
 
-    ghost fails = { λ t b. not (spec.control_holds t.func.now b) };
+    ghost fails = { λ t b. not (spec.control_holds t.tables.now b) };
 
     fn fails_at(&self, block: &Block) -> bool {
         match (block.kind, block.control) {
@@ -168,19 +153,14 @@ impl BlockTest for ControlTest<'_> {
 }
 
 // The least block at which the check Control fails.
-pub(crate) fn control_fault(
-    alloc: Global,
-    func: &Func,
-    table: &ValueTable,
-) -> Result<Option<At>, NoMemory>
-    requires well_formed { WellFormedFunc func.now }
-    requires of_func { table.now ≡ places_of func.now }
-    ensures { (u : IrUnit) → IfOk result (λ found. MatchOption found (Meets check.Control u func.now) (LeastPlace check.Control u func.now)) }
+pub(crate) fn control_fault(alloc: Global, tables: &FuncTables) -> Result<Option<At>, NoMemory>
+    ensures { (u : IrUnit) → IfOk result (λ found. MatchOption found (Meets check.Control u tables.now)
+        (LeastPlace check.Control u tables.now)) }
 {
+    let func = tables.func();
     let uses = UseTable::of_func(alloc, func)?;
     let test = ControlTest {
-        func,
-        table,
+        tables,
         uses: &uses,
     };
     Ok(place_of_block(lowest_block(func, &test)))

@@ -3,18 +3,15 @@
 ghost use Rattle.std.specs.Prelude.{◌≡◌, MatchOption, IfOk};
 ghost use Rattle.std.specs.List.{Any};
 ghost use Rattle.ssa_ir.specs.declared.func.SsaUnit.{SsaUnit as IrUnit};
-ghost use Rattle.ssa_ir.specs.WellFormed.{WellFormedFunc};
 ghost use Rattle.ssa_check.specs.declared.refusal.Check.TheVariants as check;
 ghost use Rattle.ssa_check.specs.Failing.{Meets, LeastPlace};
 ghost use Rattle.ssa_check.specs.Items as spec;
-ghost use Rattle.ssa_check.specs.Tables.{places_of};
 
 use crate::items::Items;
 use crate::lowest::value_place;
 use crate::refusal::At;
-use crate::values::ValueTable;
 use gossa_base::NoMemory;
-use ssa_ir::Func;
+use ssa_tables::FuncTables;
 use std::alloc::Global;
 
 // The lower of two numbers, where there are two.
@@ -29,18 +26,17 @@ fn lower_of(before: Option<u32>, number: Option<u32>) -> Option<u32>
 }
 
 // The lowest number of the values that are on a cycle of their block.
-fn lowest_on_cycle(alloc: Global, func: &Func, table: &ValueTable) -> Result<Option<u32>, NoMemory>
-    requires well_formed { WellFormedFunc func.now }
-    requires of_func { table.now ≡ places_of func.now }
-    requires arity { (u : IrUnit) → Meets check.Arity u func.now }
-    ensures { IfOk result (λ lowest. spec.IsLeast lowest (λ n. Any (λ b. spec.IsOnCycle b.values n) func.now.blocks)) }
+fn lowest_on_cycle(alloc: Global, tables: &FuncTables) -> Result<Option<u32>, NoMemory>
+    requires arity { (u : IrUnit) → Meets check.Arity u tables.now }
+    ensures { IfOk result (λ lowest. spec.IsLeast lowest (λ n. Any (λ b. spec.IsOnCycle b.values n) tables.now.blocks)) }
 {
     let mut lowest = None;
+    let func = tables.func();
     for (index, block) in func.blocks.as_slice().iter().enumerate() {
         let items = Items {
             values: block.values.as_slice(),
             block: index,
-            table,
+            tables,
         };
         lowest = lower_of(lowest, items.lowest_on_cycle(alloc)?);
     }
@@ -48,16 +44,11 @@ fn lowest_on_cycle(alloc: Global, func: &Func, table: &ValueTable) -> Result<Opt
 }
 
 // The least value at which the check Cycle fails, in a function whose values have their numbers of arguments.
-pub(crate) fn cycle_fault(
-    alloc: Global,
-    func: &Func,
-    table: &ValueTable,
-) -> Result<Option<At>, NoMemory>
-    requires well_formed { WellFormedFunc func.now }
-    requires of_func { table.now ≡ places_of func.now }
-    requires arity { (u : IrUnit) → Meets check.Arity u func.now }
-    ensures { (u : IrUnit) → IfOk result (λ found. MatchOption found (Meets check.Cycle u func.now) (LeastPlace check.Cycle u func.now)) }
+pub(crate) fn cycle_fault(alloc: Global, tables: &FuncTables) -> Result<Option<At>, NoMemory>
+    requires arity { (u : IrUnit) → Meets check.Arity u tables.now }
+    ensures { (u : IrUnit) → IfOk result (λ found. MatchOption found (Meets check.Cycle u tables.now)
+        (LeastPlace check.Cycle u tables.now)) }
 {
-    let lowest = lowest_on_cycle(alloc, func, table)?;
+    let lowest = lowest_on_cycle(alloc, tables)?;
     Ok(value_place(lowest))
 }

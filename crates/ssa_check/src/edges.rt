@@ -113,7 +113,8 @@ fn first_difference(left: &[Edge], right: &[Edge]) -> Option<u32>
 // The least block at which the check Edges fails.
 pub(crate) fn edges_fault(alloc: Global, func: &Func) -> Result<Option<At>, NoMemory>
     requires { WellFormedFunc func.now }
-    ensures { (u : IrUnit) → IfOk result (λ found. MatchOption found (Meets check.Edges u func.now) (LeastPlace check.Edges u func.now)) }
+    ensures { (u : IrUnit) → IfOk result (λ found. MatchOption found (Meets check.Edges u func.now)
+        (LeastPlace check.Edges u func.now)) }
 {
     let outgoing = sorted(all_outgoing(alloc, func)?);
     let incoming = sorted(all_incoming(alloc, func)?);

@@ -4,9 +4,7 @@ ghost use Rattle.std.specs.Prelude.{◌≡◌, IfOk, MatchOption};
 ghost use Rattle.ssa_ir.specs.declared.func.SsaUnit.{SsaUnit as IrUnit};
 ghost use Rattle.ssa_ir.specs.WellFormed.{WellFormed, WellFormedFunc};
 ghost use Rattle.ssa_check.specs.Failing.{Accepted, FirstFault, FirstFaultOf, MeetsAll, MetBelow};
-ghost use Rattle.ssa_check.specs.Flow.{numbers_of, preds_of};
-ghost use Rattle.ssa_check.specs.SignatureTable.{names_of};
-ghost use Rattle.ssa_check.specs.Tables.{places_of};
+ghost use Rattle.ssa_tables.specs.SignatureTable.{names_of};
 
 use crate::arity::{arity_fault, phi_fault};
 use crate::callees::callee_fault;
@@ -14,16 +12,14 @@ use crate::controls::control_fault;
 use crate::cycles::cycle_fault;
 use crate::edges::edges_fault;
 use crate::entry::entry_fault;
-use crate::flow::{BlockTable, Flow};
 use crate::memory::memory_fault;
 use crate::parameters::parameters_fault;
 use crate::refusal::{At, Check, Fault};
-use crate::signatures::SignatureTable;
 use crate::types::types_fault;
 use crate::undefined::undefined_fault;
-use crate::values::ValueTable;
 use gossa_base::NoMemory;
 use ssa_ir::{Func, SsaUnit};
+use ssa_tables::{FuncTables, SignatureTable};
 use std::alloc::Global;
 
 // A check that fails, and where.
@@ -36,7 +32,8 @@ struct Found {
 // The first fault of a function among the checks that need no table of its values.
 fn first_checks(alloc: Global, func: &Func) -> Result<Option<Found>, NoMemory>
     requires { WellFormedFunc func.now }
-    ensures { (u : IrUnit) → IfOk result (λ found. MatchOption found (MetBelow 5 u func.now) (λ x. FirstFaultOf u func.now x.check x.at)) }
+    ensures { (u : IrUnit) → IfOk result (λ found. MatchOption found (MetBelow 5 u func.now)
+        (λ x. FirstFaultOf u func.now x.check x.at)) }
 {
     if let Some(at) = entry_fault(func) {
         return Ok(Some(Found {
@@ -70,28 +67,26 @@ fn value_checks(
     alloc: Global,
     unit: &SsaUnit,
     signatures: &SignatureTable,
-    func: &Func,
-    table: &ValueTable,
+    tables: &FuncTables,
 ) -> Result<Option<Found>, NoMemory>
     requires of_unit { signatures.now ≡ names_of unit.now }
-    requires well_formed { WellFormedFunc func.now }
-    requires of_func { table.now ≡ places_of func.now }
-    requires before { MetBelow 5 unit.now func.now }
-    ensures { IfOk result (λ found. MatchOption found (MetBelow 8 unit.now func.now) (λ x. FirstFaultOf unit.now func.now x.check x.at)) }
+    requires before { MetBelow 5 unit.now tables.now }
+    ensures { IfOk result (λ found. MatchOption found (MetBelow 8 unit.now tables.now)
+        (λ x. FirstFaultOf unit.now tables.now x.check x.at)) }
 {
-    if let Some(at) = types_fault(func, table) {
+    if let Some(at) = types_fault(tables) {
         return Ok(Some(Found {
             check: Check::Types,
             at,
         }));
     }
-    if let Some(at) = parameters_fault(alloc, func)? {
+    if let Some(at) = parameters_fault(alloc, tables.func())? {
         return Ok(Some(Found {
             check: Check::ArgOrInit,
             at,
         }));
     }
-    if let Some(at) = callee_fault(alloc, unit, signatures, func, table)? {
+    if let Some(at) = callee_fault(alloc, unit, signatures, tables)? {
         return Ok(Some(Found {
             check: Check::Callee,
             at,
@@ -104,54 +99,31 @@ fn value_checks(
 fn path_checks(
     alloc: Global,
     unit: &SsaUnit,
-    func: &Func,
-    table: &ValueTable,
+    tables: &FuncTables,
 ) -> Result<Option<Found>, NoMemory>
-    requires well_formed { WellFormedFunc func.now }
-    requires of_func { table.now ≡ places_of func.now }
-    requires before { MetBelow 8 unit.now func.now }
-    ensures { IfOk result (λ found. MatchOption found (MeetsAll unit.now func.now) (λ x. FirstFaultOf unit.now func.now x.check x.at)) }
+    requires before { MetBelow 8 unit.now tables.now }
+    ensures { IfOk result (λ found. MatchOption found (MeetsAll unit.now tables.now)
+        (λ x. FirstFaultOf unit.now tables.now x.check x.at)) }
 {
-    let blocks = BlockTable::new(alloc, func)?;
-    let flow = Flow::new(alloc, func, &blocks)?;
-    flow_checks(alloc, unit, func, table, &blocks, &flow)
-}
-
-// The same by the tables of the function's blocks and edges.
-fn flow_checks(
-    alloc: Global,
-    unit: &SsaUnit,
-    func: &Func,
-    table: &ValueTable,
-    blocks: &BlockTable,
-    flow: &Flow,
-) -> Result<Option<Found>, NoMemory>
-    requires well_formed { WellFormedFunc func.now }
-    requires of_func { table.now ≡ places_of func.now }
-    requires of_blocks { blocks.now ≡ numbers_of func.now }
-    requires flow { flow.now ≡ preds_of func.now }
-    requires before { MetBelow 8 unit.now func.now }
-    ensures { IfOk result (λ found. MatchOption found (MeetsAll unit.now func.now) (λ x. FirstFaultOf unit.now func.now x.check x.at)) }
-{
-    if let Some(at) = memory_fault(alloc, func, table, blocks, flow)? {
+    if let Some(at) = memory_fault(alloc, tables)? {
         return Ok(Some(Found {
             check: Check::Memory,
             at,
         }));
     }
-    if let Some(at) = cycle_fault(alloc, func, table)? {
+    if let Some(at) = cycle_fault(alloc, tables)? {
         return Ok(Some(Found {
             check: Check::Cycle,
             at,
         }));
     }
-    if let Some(at) = undefined_fault(alloc, func, table, blocks, flow)? {
+    if let Some(at) = undefined_fault(alloc, tables)? {
         return Ok(Some(Found {
             check: Check::Undefined,
             at,
         }));
     }
-    if let Some(at) = control_fault(alloc, func, table)? {
+    if let Some(at) = control_fault(alloc, tables)? {
         return Ok(Some(Found {
             check: Check::Control,
             at,
@@ -169,16 +141,17 @@ fn fault_of(
 ) -> Result<Option<Found>, NoMemory>
     requires of_unit { signatures.now ≡ names_of unit.now }
     requires well_formed { WellFormedFunc func.now }
-    ensures { IfOk result (λ found. MatchOption found (MeetsAll unit.now func.now) (λ x. FirstFaultOf unit.now func.now x.check x.at)) }
+    ensures { IfOk result (λ found. MatchOption found (MeetsAll unit.now func.now)
+        (λ x. FirstFaultOf unit.now func.now x.check x.at)) }
 {
     if let Some(found) = first_checks(alloc, func)? {
         return Ok(Some(found));
     }
-    let table = ValueTable::new(alloc, func)?;
-    if let Some(found) = value_checks(alloc, unit, signatures, func, &table)? {
+    let tables = FuncTables::new(alloc, func)?;
+    if let Some(found) = value_checks(alloc, unit, signatures, &tables)? {
         return Ok(Some(found));
     }
-    path_checks(alloc, unit, func, &table)
+    path_checks(alloc, unit, &tables)
 }
 
 // The first fault of a unit, by the table of its signatures.

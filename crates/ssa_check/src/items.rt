@@ -1,47 +1,19 @@
-// The items of a block and the edges between them: what its values wait for. An item goes by the index of its first value.
+// The items of a block and the edges between them: what its values wait for. An item goes by the index of its first
+// value.
 
 ghost use Rattle.std.specs.Prelude.{◌≡◌, ◌<◌, ◌+◌, ◌^◌, ◌++◌, ◌||◌, length, nat_eq, IfOk, OnOk};
 ghost use Rattle.indexmap.specs.IndexMap.{get};
 ghost use Rattle.gossa_base.specs.declared.ids.ValueId.{ValueId as IrValueId};
 ghost use Rattle.ssa_ir.specs.FirstOrder as order;
 ghost use Rattle.ssa_check.specs.Items as spec;
+ghost use Rattle.ssa_tables.specs.Places.{places_of};
 
-use crate::ops::{is_call, is_phi, is_select};
-use crate::values::ValueTable;
 use gossa_base::{NoMemory, ValueId};
 use graphs::{Edge, Named, lowest_on_loop};
 use indexmap::IndexMap;
-use ssa_ir::{Op, Value, op_row};
+use ssa_ir::Value;
+use ssa_tables::FuncTables;
 use std::alloc::Global;
-
-/// Whether an op reads a memory and makes none.
-pub(crate) fn reads_memory(op: Op) -> bool
-    ensures { result ≡ order.reads_memory op }
-{
-    op_row(op).reads_mem
-}
-
-fn changes_memory(op: Op) -> bool
-    ensures { result ≡ order.changes_memory op }
-{
-    op_row(op).makes_mem || is_call(op)
-}
-
-fn takes_memory(op: Op) -> bool
-    ensures { result ≡ (order.reads_memory op || order.changes_memory op) }
-{
-    reads_memory(op) || changes_memory(op)
-}
-
-/// The memory that a value reads or changes: its last argument.
-pub(crate) fn memory_taken(value: &Value) -> Option<ValueId>
-    ensures { result ≡ order.memory_taken value.now.op value.now.args }
-{
-    if takes_memory(value.op) {
-        return value.args.as_slice().last().copied();
-    }
-    None
-}
 
 // The index of the first value that takes each memory, by the memory's number.
 fn first_takers(alloc: Global, values: &[Value]) -> Result<IndexMap<u32, usize>, NoMemory>
@@ -49,7 +21,7 @@ fn first_takers(alloc: Global, values: &[Value]) -> Result<IndexMap<u32, usize>,
 {
     let mut firsts = IndexMap::new(alloc);
     for (index, value) in values.iter().enumerate() {
-        if let Some(memory) = memory_taken(value) {
+        if let Some(memory) = value.memory_taken() {
             if firsts.get(&memory.0).is_none() {
                 firsts.insert(memory.0, index)?;
             }
@@ -58,21 +30,21 @@ fn first_takers(alloc: Global, values: &[Value]) -> Result<IndexMap<u32, usize>,
     Ok(firsts)
 }
 
-/// A block's values, the block's index in its function, and where the values of the function stand.
+/// A block's values, the block's index in its function, and the tables of the function.
 #[derive(Drop)]
 pub(crate) struct Items<'a> {
     pub values: &'a [Value],
     pub block: usize,
-    pub table: &'a ValueTable,
+    pub tables: &'a FuncTables<'a>,
 }
 
 impl Items<'_> {
     // The index of the value of this number, where it stands in the block.
     fn index_of(&self, id: ValueId) -> Option<usize>
-        requires { spec.Indexes self.now.table.now self.now.block self.now.values.now }
+        requires { spec.Indexes (places_of self.now.tables.now) self.now.block self.now.values.now }
         ensures { result ≡ spec.index_of self.now.values.now id }
     {
-        match self.table.place(id) {
+        match self.tables.place(id) {
             Some(place) if place.block == self.block => Some(place.index),
             _ => None,
         }
@@ -80,7 +52,7 @@ impl Items<'_> {
 
     // The index of the call that a select of these arguments names, where it stands in the block.
     fn call_named(&self, args: &[ValueId]) -> Option<usize>
-        requires { spec.Indexes self.now.table.now self.now.block self.now.values.now }
+        requires { spec.Indexes (places_of self.now.tables.now) self.now.block self.now.values.now }
         ensures { result ≡ spec.call_named self.now.values.now args.now }
     {
         let Some(first) = args.first() else {
@@ -90,20 +62,20 @@ impl Items<'_> {
             return None;
         };
         match self.values.get(index) {
-            Some(value) if is_call(value.op) => Some(index),
+            Some(value) if value.op.is_call() => Some(index),
             _ => None,
         }
     }
 
     // The item of the value at this index.
     fn owner_of(&self, index: usize, value: &Value) -> Option<usize>
-        requires { spec.Indexes self.now.table.now self.now.block self.now.values.now }
+        requires { spec.Indexes (places_of self.now.tables.now) self.now.block self.now.values.now }
         ensures { result ≡ spec.owner_of self.now.values.now index value.now }
     {
-        if is_phi(value.op) {
+        if value.op.is_phi() {
             return None;
         }
-        if is_select(value.op) {
+        if value.op.is_select() {
             return match self.call_named(value.args.as_slice()) {
                 Some(call) => Some(call),
                 None => Some(index),
@@ -114,7 +86,7 @@ impl Items<'_> {
 
     // The item of the value of this number, where it stands in the block.
     fn owner(&self, id: ValueId) -> Option<usize>
-        requires { spec.Indexes self.now.table.now self.now.block self.now.values.now }
+        requires { spec.Indexes (places_of self.now.tables.now) self.now.block self.now.values.now }
         ensures { result ≡ spec.owner self.now.values.now id }
     {
         let Some(index) = self.index_of(id) else {
@@ -133,7 +105,7 @@ impl Items<'_> {
         index: usize,
         args: &[ValueId],
     ) -> Result<(), NoMemory>
-        requires { spec.Indexes self.now.table.now self.now.block self.now.values.now }
+        requires { spec.Indexes (places_of self.now.tables.now) self.now.block self.now.values.now }
         ensures { OnOk result (edges.new.items ≡ edges.old.items ++ spec.arg_edges self.now.values.now index args.now) }
     {
         for arg in args {
@@ -157,22 +129,23 @@ impl Items<'_> {
     ) -> Result<(), NoMemory>
         requires firsts { (m : IrValueId) → get nat_eq firsts.now m.0 ≡ spec.first_taker self.now.values.now m }
         requires fits { length self.now.values.now + length self.now.values.now < 2 ^ 64 }
-        ensures { OnOk result (edges.new.items ≡ edges.old.items ++ spec.memory_edges self.now.values.now index value.now) }
+        ensures { OnOk result (edges.new.items ≡ edges.old.items
+            ++ spec.memory_edges self.now.values.now index value.now) }
     {
-        let Some(memory) = memory_taken(value) else {
+        let Some(memory) = value.memory_taken() else {
             return Ok(());
         };
         let Some(first) = firsts.get(&memory.0).copied() else {
             return Ok(());
         };
         let node = self.values.len() + first;
-        if reads_memory(value.op) {
+        if value.op.reads_memory() {
             edges.push(Edge {
                 source: index,
                 target: node,
             })?;
         }
-        if changes_memory(value.op) {
+        if value.op.changes_memory() {
             edges.push(Edge {
                 source: node,
                 target: index,
@@ -183,7 +156,7 @@ impl Items<'_> {
 
     // Whether the value at this index is the first of its item.
     fn leads(&self, index: usize, value: &Value) -> bool
-        requires { spec.Indexes self.now.table.now self.now.block self.now.values.now }
+        requires { spec.Indexes (places_of self.now.tables.now) self.now.block self.now.values.now }
         ensures { result ≡ spec.leads self.now.values.now index value.now }
     {
         match self.owner_of(index, value) {
@@ -200,10 +173,11 @@ impl Items<'_> {
         index: usize,
         value: &Value,
     ) -> Result<(), NoMemory>
-        requires indexes { spec.Indexes self.now.table.now self.now.block self.now.values.now }
+        requires indexes { spec.Indexes (places_of self.now.tables.now) self.now.block self.now.values.now }
         requires firsts { (m : IrValueId) → get nat_eq firsts.now m.0 ≡ spec.first_taker self.now.values.now m }
         requires fits { length self.now.values.now + length self.now.values.now < 2 ^ 64 }
-        ensures { OnOk result (edges.new.items ≡ edges.old.items ++ spec.value_edges self.now.values.now index value.now) }
+        ensures { OnOk result (edges.new.items ≡ edges.old.items
+            ++ spec.value_edges self.now.values.now index value.now) }
     {
         if !self.leads(index, value) {
             return Ok(());
@@ -214,7 +188,7 @@ impl Items<'_> {
 
     // The edges between the items of the block.
     fn edges(&self, alloc: Global) -> Result<Vec<Edge>, NoMemory>
-        requires indexes { spec.Indexes self.now.table.now self.now.block self.now.values.now }
+        requires indexes { spec.Indexes (places_of self.now.tables.now) self.now.block self.now.values.now }
         requires fits { length self.now.values.now + length self.now.values.now < 2 ^ 64 }
         ensures { IfOk result (λ edges. edges.items ≡ spec.block_edges self.now.values.now) }
     {
@@ -228,7 +202,7 @@ impl Items<'_> {
 
     // The numbers of the values of each item.
     fn names(&self, alloc: Global) -> Result<Vec<Named>, NoMemory>
-        requires { spec.Indexes self.now.table.now self.now.block self.now.values.now }
+        requires { spec.Indexes (places_of self.now.tables.now) self.now.block self.now.values.now }
         ensures { IfOk result (λ names. names.items ≡ spec.block_names self.now.values.now) }
     {
         let mut names = Vec::new(alloc);
@@ -245,7 +219,7 @@ impl Items<'_> {
 
     /// The lowest number of the values of the block that are on a cycle.
     pub(crate) fn lowest_on_cycle(&self, alloc: Global) -> Result<Option<u32>, NoMemory>
-        requires indexes { spec.Indexes self.now.table.now self.now.block self.now.values.now }
+        requires indexes { spec.Indexes (places_of self.now.tables.now) self.now.block self.now.values.now }
         requires has_items { spec.HasItems self.now.values.now }
         requires fits { length self.now.values.now + length self.now.values.now < 2 ^ 64 }
         ensures { IfOk result (λ lowest. spec.IsLeast lowest (spec.IsOnCycle self.now.values.now)) }

@@ -4,7 +4,7 @@ ghost use Rattle.std.specs.Prelude.{◌≡◌, Bool};
 ghost use Rattle.std.specs.List.{All};
 ghost use Rattle.ssa_ir.specs.declared.func.Block.{Block as IrBlock};
 ghost use Rattle.ssa_ir.specs.declared.func.Value.{Value as IrValue};
-ghost use Rattle.ssa_check.specs.Tables as spec;
+ghost use Rattle.ssa_check.specs.Lowest as spec;
 ghost use Rattle.ssa_check.specs.Failing.{at_value, at_block};
 ghost use Rattle.ssa_check.specs.LeastPlaces as places;
 

@@ -6,8 +6,8 @@ ghost use Rattle.std.specs.List.{All};
 ghost use Rattle.ssa_check.specs.MemorySweeps as spec;
 ghost use Rattle.ssa_check.specs.PassedMemories.{ArePassedMemories, SaysBefore};
 
-use crate::flow::Flow;
 use gossa_base::{NoMemory, ValueId};
+use ssa_tables::Flow;
 use std::alloc::Global;
 
 /// What a block leaves of the memory that comes to it.
@@ -88,7 +88,8 @@ fn before_of(flow: &Flow, passed: &[Passed], block: usize) -> Passed
 pub(crate) fn passed_before(flow: &Flow, passed: &[Passed], block: usize) -> Passed
     requires within { block < length flow.now }
     requires one_each { length passed.now ≡ length flow.now }
-    ensures { (leaves : List Leaves) → ArePassedMemories flow.now leaves passed.now → SaysBefore flow.now leaves block result }
+    ensures { (leaves : List Leaves) → ArePassedMemories flow.now leaves passed.now
+        → SaysBefore flow.now leaves block result }
 {
     before_of(flow, passed, block)
 }

@@ -10,16 +10,16 @@ ghost use Rattle.ssa_ir.specs.WellFormed.{WellFormedFunc};
 ghost use Rattle.ssa_check.specs.declared.refusal.Check.TheVariants as check;
 ghost use Rattle.ssa_check.specs.Failing.{Meets, LeastPlace};
 ghost use Rattle.ssa_check.specs.ParameterTables as tables;
-ghost use Rattle.ssa_check.specs.Tables.{lower_where};
+ghost use Rattle.ssa_check.specs.Lowest.{lower_where};
+ghost use Rattle.ssa_ir.specs.OpKinds as kinds;
 ghost use Rattle.ssa_check.specs.ValueChecks as spec;
 
 use crate::arity::is_first;
-use crate::classes::{class_of, class_of_scalar, same_class};
 use crate::lowest::{ValueTest, lower, lowest_value, value_place};
 use crate::refusal::At;
 use gossa_base::NoMemory;
 use indexmap::IndexMap;
-use ssa_ir::{Block, Func, Op, Scalar, Value};
+use ssa_ir::{Block, Func, Scalar, Value, class_of, class_of_scalar, same_class};
 use std::alloc::Global;
 
 // The lowest number of an InitMem, and for the number of each parameter that of its Args.
@@ -29,25 +29,11 @@ struct ParameterTable {
     args: IndexMap<i64, u32>,
 }
 
-/// Whether this op is an InitMem.
-pub(crate) fn is_init(op: Op) -> bool
-    ensures { result ≡ spec.is_init op }
-{
-    matches!(op, Op::InitMem)
-}
-
-// Whether this op is an Arg.
-fn is_arg(op: Op) -> bool
-    ensures { result ≡ spec.is_arg op }
-{
-    matches!(op, Op::Arg)
-}
-
 // The lowest number of an InitMem, with this value.
 fn with_init(before: Option<u32>, value: &Value) -> Option<u32>
-    ensures { result ≡ lower_where (spec.is_init value.now.op) before value.now.id.0 }
+    ensures { result ≡ lower_where (kinds.is_init value.now.op) before value.now.id.0 }
 {
-    if is_init(value.op) {
+    if value.op.is_init() {
         lower(before, value.id.0)
     } else {
         before
@@ -56,9 +42,10 @@ fn with_init(before: Option<u32>, value: &Value) -> Option<u32>
 
 // Takes note of a value, where it is an Arg.
 fn note_arg(args: &mut IndexMap<i64, u32>, value: &Value) -> Result<(), NoMemory>
-    ensures { OnOk result ((number : ℤ) → get int_eq args.new number ≡ lower_where (tables.is_arg_of number value.now) (get int_eq args.old number) value.now.id.0) }
+    ensures { OnOk result ((number : ℤ) → get int_eq args.new number
+        ≡ lower_where (tables.is_arg_of number value.now) (get int_eq args.old number) value.now.id.0) }
 {
-    if !is_arg(value.op) {
+    if !value.op.is_arg() {
         return Ok(());
     }
     if let Some(lowest) = args.get(&value.aux) {
@@ -145,7 +132,7 @@ impl ParameterTest<'_> {
     // Whether an InitMem has a lower number than this value.
     fn has_lower_init(&self, value: &Value) -> bool
         requires { tables.IsTableOf (values_of self.now.func.now) self.now.table.now }
-        ensures { result ≡ list_any (λ u. spec.is_init u.op && spec.is_lower u value.now) (values_of self.now.func.now) }
+        ensures { result ≡ list_any (λ u. kinds.is_init u.op && spec.is_lower u value.now) (values_of self.now.func.now) }
     {
         is_below(self.table.init, value.id.0)
     }
@@ -153,7 +140,8 @@ impl ParameterTest<'_> {
     // Whether an Arg of this value's number in brackets has a lower number than this value.
     fn has_lower_arg(&self, value: &Value) -> bool
         requires { tables.IsTableOf (values_of self.now.func.now) self.now.table.now }
-        ensures { result ≡ list_any (λ u. spec.is_arg u.op && int_eq u.aux value.now.aux && spec.is_lower u value.now) (values_of self.now.func.now) }
+        ensures { result ≡ list_any (λ u. kinds.is_arg u.op && int_eq u.aux value.now.aux
+            && spec.is_lower u value.now) (values_of self.now.func.now) }
     {
         is_below(self.table.args.get(&value.aux).copied(), value.id.0)
     }
@@ -183,15 +171,16 @@ impl ValueTest for ParameterTest<'_> {
     ghost fails = { λ t b v. not (spec.arg_or_init_holds t.func.now b v) };
 
     fn fails_at(&self, block: &Block, value: &Value) -> bool {
-        (is_init(value.op) && !self.init_holds(block, value))
-            || (is_arg(value.op) && !self.arg_holds(block, value))
+        (value.op.is_init() && !self.init_holds(block, value))
+            || (value.op.is_arg() && !self.arg_holds(block, value))
     }
 }
 
 // The least place at which the check ArgOrInit fails: the function, where it has no InitMem, or the least value.
 pub(crate) fn parameters_fault(alloc: Global, func: &Func) -> Result<Option<At>, NoMemory>
     requires { WellFormedFunc func.now }
-    ensures { (u : IrUnit) → IfOk result (λ found. MatchOption found (Meets check.ArgOrInit u func.now) (LeastPlace check.ArgOrInit u func.now)) }
+    ensures { (u : IrUnit) → IfOk result (λ found. MatchOption found (Meets check.ArgOrInit u func.now)
+        (LeastPlace check.ArgOrInit u func.now)) }
 {
     let table = ParameterTable::of_func(alloc, func)?;
     if table.init.is_none() {

@@ -19,8 +19,8 @@ pub enum Check {
     Arity,
     /// Arguments and results have the classes of their op.
     Types,
-    /// There is one InitMem, and each Arg has the number and the class of a parameter, which no other Arg has; all stand in
-    /// the entry.
+    /// There is one InitMem, and each Arg has the number and the class of a parameter, which no other Arg has; all
+    /// stand in the entry.
     ArgOrInit,
     /// Calls and their selects are those of the callee's signature.
     Callee,
@@ -74,8 +74,8 @@ impl Check {
     }
 }
 
-/// A place in a function: the function itself, a value, or a block. Places are ordered so: the function, then its values by
-/// number, then its blocks by number.
+/// A place in a function: the function itself, a value, or a block. Places are ordered so: the function, then its
+/// values by number, then its blocks by number.
 #[derive(Clone, Copy, Debug, PartialEq, Eq)]
 pub enum At {
     Func,
@@ -83,8 +83,8 @@ pub enum At {
     Block(BlockId),
 }
 
-/// The first fault of a unit: the first function that has one, by its number from 0, its first check that fails, and the
-/// least place at which it does.
+/// The first fault of a unit: the first function that has one, by its number from 0, its first check that fails, and
+/// the least place at which it does.
 #[derive(Clone, Copy, Debug, PartialEq, Eq)]
 pub struct Fault {
     pub func: u32,

@@ -4,46 +4,42 @@ ghost use Rattle.std.specs.Prelude.{◌≡◌, MatchOption, not};
 ghost use Rattle.std.specs.List.{list_all};
 ghost use Rattle.ssa_ir.specs.declared.func.SsaUnit.{SsaUnit as IrUnit};
 ghost use Rattle.ssa_ir.specs.Lookups.{value_of};
-ghost use Rattle.ssa_ir.specs.WellFormed.{WellFormedFunc};
 ghost use Rattle.ssa_ir.specs.Widths as widths;
 ghost use Rattle.ssa_check.specs.declared.refusal.Check.TheVariants as check;
-ghost use Rattle.ssa_check.specs.Classes as classes;
+ghost use Rattle.ssa_ir.specs.Classes as classes;
 ghost use Rattle.ssa_check.specs.Failing.{Meets, LeastPlace};
 ghost use Rattle.ssa_check.specs.OpTypes as spec;
-ghost use Rattle.ssa_check.specs.Tables.{places_of};
 ghost use Rattle.ssa_check.specs.ValueChecks.{types_hold};
 
-use crate::classes::{Class, class_of, class_of_scalar, is_scalar, same_class};
 use crate::lowest::{ValueTest, lowest_value, value_place};
 use crate::refusal::At;
-use crate::values::ValueTable;
 use gossa_base::ValueId;
-use ssa_ir::{Block, Func, Op, Scalar, Value, Width, WidthPair};
+use ssa_ir::{
+    Block, Class, Op, Scalar, Value, Width, WidthPair, class_of, class_of_scalar, is_scalar,
+    same_class,
+};
+use ssa_tables::FuncTables;
 use std::marker::Model;
 
 /// The class of a value of the function, and of none Neither.
-pub(crate) fn class_at(func: &Func, table: &ValueTable, id: ValueId) -> Class
-    requires well_formed { WellFormedFunc func.now }
-    requires of_func { table.now ≡ places_of func.now }
-    ensures { result ≡ spec.class_at func.now id }
+pub(crate) fn class_at(tables: &FuncTables, id: ValueId) -> Class
+    ensures { result ≡ spec.class_at tables.now id }
 {
-    match table.value(func, id) {
+    match tables.value(id) {
         Some(value) => class_of(&value.ty),
         None => Class::Neither,
     }
 }
 
 /// Whether values have these classes, one each.
-pub(crate) fn are(func: &Func, table: &ValueTable, args: &[ValueId], asked: &[Class]) -> bool
-    requires well_formed { WellFormedFunc func.now }
-    requires of_func { table.now ≡ places_of func.now }
-    ensures { result ≡ spec.are (spec.classes_of func.now args.now) asked.now }
+pub(crate) fn are(tables: &FuncTables, args: &[ValueId], asked: &[Class]) -> bool
+    ensures { result ≡ spec.are (spec.classes_of tables.now args.now) asked.now }
 {
     if args.len() != asked.len() {
         return false;
     }
     for (i, class) in asked.iter().enumerate() {
-        if !same_class(class_at(func, table, args[i]), *class) {
+        if !same_class(class_at(tables, args[i]), *class) {
             return false;
         }
     }
@@ -51,13 +47,11 @@ pub(crate) fn are(func: &Func, table: &ValueTable, args: &[ValueId], asked: &[Cl
 }
 
 // Whether values are all of one class.
-fn all_are(func: &Func, table: &ValueTable, args: &[ValueId], class: Class) -> bool
-    requires well_formed { WellFormedFunc func.now }
-    requires of_func { table.now ≡ places_of func.now }
-    ensures { result ≡ list_all (classes.same_class class) (spec.classes_of func.now args.now) }
+fn all_are(tables: &FuncTables, args: &[ValueId], class: Class) -> bool
+    ensures { result ≡ list_all (classes.same_class class) (spec.classes_of tables.now args.now) }
 {
     for id in args {
-        if !same_class(class, class_at(func, table, *id)) {
+        if !same_class(class, class_at(tables, *id)) {
             return false;
         }
     }
@@ -65,13 +59,11 @@ fn all_are(func: &Func, table: &ValueTable, args: &[ValueId], class: Class) -> b
 }
 
 // Whether values are all integers, bools or pointers.
-fn all_scalars(func: &Func, table: &ValueTable, args: &[ValueId]) -> bool
-    requires well_formed { WellFormedFunc func.now }
-    requires of_func { table.now ≡ places_of func.now }
-    ensures { result ≡ list_all classes.is_scalar (spec.classes_of func.now args.now) }
+fn all_scalars(tables: &FuncTables, args: &[ValueId]) -> bool
+    ensures { result ≡ list_all classes.is_scalar (spec.classes_of tables.now args.now) }
 {
     for id in args {
-        if !is_scalar(class_at(func, table, *id)) {
+        if !is_scalar(class_at(tables, *id)) {
             return false;
         }
     }
@@ -86,25 +78,21 @@ fn makes_base(op: Op) -> bool
 }
 
 // Whether a value is the base of symbols.
-fn is_base(func: &Func, table: &ValueTable, id: ValueId) -> bool
-    requires well_formed { WellFormedFunc func.now }
-    requires of_func { table.now ≡ places_of func.now }
-    ensures { result ≡ spec.is_base (value_of func.now id) }
+fn is_base(tables: &FuncTables, id: ValueId) -> bool
+    ensures { result ≡ spec.is_base (value_of tables.now id) }
 {
-    match table.value(func, id) {
+    match tables.value(id) {
         Some(value) => makes_base(value.op),
         None => false,
     }
 }
 
 // Whether values are all the base of symbols.
-fn all_bases(func: &Func, table: &ValueTable, args: &[ValueId]) -> bool
-    requires well_formed { WellFormedFunc func.now }
-    requires of_func { table.now ≡ places_of func.now }
-    ensures { result ≡ list_all (λ id. spec.is_base (value_of func.now id)) args.now }
+fn all_bases(tables: &FuncTables, args: &[ValueId]) -> bool
+    ensures { result ≡ list_all (λ id. spec.is_base (value_of tables.now id)) args.now }
 {
     for id in args {
-        if !is_base(func, table, *id) {
+        if !is_base(tables, *id) {
             return false;
         }
     }
@@ -119,13 +107,11 @@ pub(crate) fn before_last(args: &[ValueId]) -> &[ValueId]
 }
 
 /// Whether the last of values is a memory.
-pub(crate) fn last_is_memory(func: &Func, table: &ValueTable, args: &[ValueId]) -> bool
-    requires well_formed { WellFormedFunc func.now }
-    requires of_func { table.now ≡ places_of func.now }
-    ensures { result ≡ spec.last_is_memory func.now args.now }
+pub(crate) fn last_is_memory(tables: &FuncTables, args: &[ValueId]) -> bool
+    ensures { result ≡ spec.last_is_memory tables.now args.now }
 {
     match args.last() {
-        Some(id) => same_class(class_at(func, table, *id), Class::Memory),
+        Some(id) => same_class(class_at(tables, *id), Class::Memory),
         None => false,
     }
 }
@@ -165,21 +151,15 @@ fn wide_of(pair: WidthPair) -> Width
 // Whether a value of a function lacks the classes that its op asks.
 #[derive(Drop)]
 struct TypesTest<'a> {
-    func: &'a Func,
-    table: &'a ValueTable,
+    tables: &'a FuncTables<'a>,
 }
 
 impl<'a> Model for TypesTest<'a> {
-    ghost use Rattle.std.specs.Prelude.{◌≡◌};
     ghost use Rattle.ssa_ir.specs.declared.func.Func.{Func as IrFunc};
-    ghost use Rattle.ssa_ir.specs.WellFormed.{WellFormedFunc};
-    ghost use Rattle.ssa_check.specs.Tables.{places_of};
 
     ghost Value = { IrFunc };
 
-    ghost view = { λ t. t.func.now };
-
-    ghost invariant = { λ t. WellFormedFunc t.func.now × (t.table.now ≡ places_of t.func.now) };
+    ghost view = { λ t. t.tables.now };
 }
 
 impl TypesTest<'_> {
@@ -187,7 +167,7 @@ impl TypesTest<'_> {
     fn exactly(&self, value: &Value, asked: &[Class], result_class: Class) -> bool
         ensures { result ≡ spec.has_classes self.now value.now (spec.Exactly asked.now result_class) }
     {
-        are(self.func, self.table, value.args.as_slice(), asked)
+        are(self.tables, value.args.as_slice(), asked)
             && same_class(class_of(&value.ty), result_class)
     }
 
@@ -202,7 +182,7 @@ impl TypesTest<'_> {
     fn any_scalar(&self, value: &Value, asked: &[Class]) -> bool
         ensures { result ≡ spec.has_classes self.now value.now (spec.AnyScalar asked.now) }
     {
-        are(self.func, self.table, value.args.as_slice(), asked) && is_scalar(class_of(&value.ty))
+        are(self.tables, value.args.as_slice(), asked) && is_scalar(class_of(&value.ty))
     }
 
     // A pointer, a value of the type in braces and a memory; a memory.
@@ -221,7 +201,7 @@ impl TypesTest<'_> {
         ensures { result ≡ spec.has_classes self.now value.now spec.AllOneScalar }
     {
         let class = class_of(&value.ty);
-        is_scalar(class) && all_are(self.func, self.table, value.args.as_slice(), class)
+        is_scalar(class) && all_are(self.tables, value.args.as_slice(), class)
     }
 
     // Arguments of the result's class, which may be a memory too.
@@ -230,7 +210,7 @@ impl TypesTest<'_> {
     {
         let class = class_of(&value.ty);
         (is_scalar(class) || same_class(class, Class::Memory))
-            && all_are(self.func, self.table, value.args.as_slice(), class)
+            && all_are(self.tables, value.args.as_slice(), class)
     }
 
     // Two arguments of the result's class, no memory and no tuple, and a bool.
@@ -240,8 +220,7 @@ impl TypesTest<'_> {
         let class = class_of(&value.ty);
         is_scalar(class)
             && are(
-                self.func,
-                self.table,
+                self.tables,
                 value.args.as_slice(),
                 &[class, class, Class::Bool],
             )
@@ -251,7 +230,7 @@ impl TypesTest<'_> {
     fn of_base(&self, value: &Value) -> bool
         ensures { result ≡ spec.has_classes self.now value.now spec.OfBase }
     {
-        all_bases(self.func, self.table, value.args.as_slice())
+        all_bases(self.tables, value.args.as_slice())
             && same_class(class_of(&value.ty), Class::Pointer)
     }
 
@@ -259,7 +238,7 @@ impl TypesTest<'_> {
     fn calls(&self, value: &Value) -> bool
         ensures { result ≡ spec.has_classes self.now value.now spec.Calls }
     {
-        last_is_memory(self.func, self.table, value.args.as_slice())
+        last_is_memory(self.tables, value.args.as_slice())
             && same_class(class_of(&value.ty), Class::Tuple)
     }
 
@@ -276,8 +255,8 @@ impl TypesTest<'_> {
         ensures { result ≡ spec.has_classes self.now value.now spec.Returns }
     {
         let args = value.args.as_slice();
-        last_is_memory(self.func, self.table, args)
-            && all_scalars(self.func, self.table, before_last(args))
+        last_is_memory(self.tables, args)
+            && all_scalars(self.tables, before_last(args))
             && same_class(class_of(&value.ty), Class::Tuple)
     }
 
@@ -437,10 +416,8 @@ impl ValueTest for TypesTest<'_> {
 }
 
 // The least value at which the check Types fails.
-pub(crate) fn types_fault(func: &Func, table: &ValueTable) -> Option<At>
-    requires well_formed { WellFormedFunc func.now }
-    requires of_func { table.now ≡ places_of func.now }
-    ensures { (u : IrUnit) → MatchOption result (Meets check.Types u func.now) (LeastPlace check.Types u func.now) }
+pub(crate) fn types_fault(tables: &FuncTables) -> Option<At>
+    ensures { (u : IrUnit) → MatchOption result (Meets check.Types u tables.now) (LeastPlace check.Types u tables.now) }
 {
-    value_place(lowest_value(func, &TypesTest { func, table }))
+    value_place(lowest_value(tables.func(), &TypesTest { tables }))
 }

@@ -1,5 +1,7 @@
 -- Names of ops: what a search among ops in the order of their names says, and that each name is one op's.
-use Rattle.std.proofs.Common.{◌≡◌, ◌≢◌, ℕ, zero, suc, ◌+◌, ◌<◌, ◌≤◌, Bool, true, false, cond, ◌&&◌, List, [], ◌∷◌, length, get_or, Option, None, Some, MatchOption, Result, Ok, Err, Ordering, Less, Equal, Greater, ltb, refl, sym, ap, ◌∙◌, subst, arith}
+use Rattle.std.proofs.Common.{◌≡◌, ◌≢◌, ℕ, zero, suc, ◌+◌, ◌<◌, ◌≤◌, Bool, true, false, cond, ◌&&◌, List, [], ◌∷◌}
+use Rattle.std.proofs.Common.{length, get_or, Option, None, Some, MatchOption, Result, Ok, Err, Ordering, Less, Equal}
+use Rattle.std.proofs.Common.{Greater, ltb, refl, sym, ap, ◌∙◌, subst, arith}
 use Rattle.std.specs.Cmp.Lexicographic.{slice_cmp}
 use Rattle.std.specs.List.{All, find}
 use Rattle.std.specs.List.Sorted.{IsBinarySearchResult}
@@ -78,7 +80,8 @@ ascends_from_in_order a (b ∷ ops) h zero d low lt =
 ascends_from_in_order a (b ∷ ops) h (suc k) d low lt =
     let rest = and_right (is_lt (slice_cmp nat_cmp (op_name a) (op_name b))) (ascends_from b ops) h in
     let next : suc k + 1 ≡ suc (k + 1) = omega arith in
-    subst (λ n. is_lt (slice_cmp nat_cmp (op_name (get_or (a ∷ b ∷ ops) n d)) (op_name (get_or (b ∷ ops) k d))) ≡ false) (sym next)
+    subst (λ n. is_lt (slice_cmp nat_cmp (op_name (get_or (a ∷ b ∷ ops) n d)) (op_name (get_or (b ∷ ops) k d))) ≡ false)
+    (sym next)
     (ascends_from_in_order b ops rest k d (omega arith) (omega arith))
 
 -- ops whose names ascend are in order
@@ -97,13 +100,15 @@ found_by_test P test a ops op e h later false t =
     later (ap (λ b. cond b (Some a) (find test ops)) (sym t) ∙ e) (λ k d lt. h (suc k) d (omega arith))
 
 -- what holds of all of a list holds of one that is found in it
-found_holds : (P : Op → Type 0) (test : Op → Bool) (ops : List Op) (op : Op) → find test ops ≡ Some op → All P ops → P op
+found_holds : (P : Op → Type 0) (test : Op → Bool) (ops : List Op) (op : Op) → find test ops ≡ Some op → All P ops
+    → P op
 found_holds P test [] op e h = cc
 found_holds P test (a ∷ ops) op e h = found_by_test P test a ops op e h (found_holds P test ops op) (test a) refl
 
 -- an op's name is in no list of all ops that lacks it
 pub none_of_all : (name : List ℕ) → IsNoneOf all_ops name → IsNoOp name
-none_of_all name h op = found_holds (λ o. op_name o ≢ name) (λ o. bytes_eq (op_name o) (op_name op)) all_ops op (own_name op) h
+none_of_all name h op =
+    found_holds (λ o. op_name o ≢ name) (λ o. bytes_eq (op_name o) (op_name op)) all_ops op (own_name op) h
 
 -- the answer among all ops
 pub named_among_all : (name : List ℕ) (found : Option Op)

@@ -1,5 +1,6 @@
 -- Runs with a larger bound: what ended stays as it was.
-use Rattle.std.proofs.Common.{◌≡◌, ◌≢◌, ℕ, zero, suc, ◌≤◌, Bool, true, false, cond, eqb, List, [], ◌∷◌, length, Option, None, Some, slice_get, unwrap_or, refl, ap, arith}
+use Rattle.std.proofs.Common.{◌≡◌, ◌≢◌, ℕ, zero, suc, ◌≤◌, Bool, true, false, cond, eqb, List, [], ◌∷◌, length, Option}
+use Rattle.std.proofs.Common.{None, Some, slice_get, unwrap_or, refl, ap, arith}
 use Rattle.gossa_base.specs.declared.ids.BlockId.{BlockId}
 use Rattle.ssa_ir.specs.declared.case.CallShown.{CallShown}
 use Rattle.ssa_ir.specs.declared.case.End.TheVariants.{Going}
@@ -13,9 +14,12 @@ use Rattle.ssa_ir.specs.Edges.{block_named, edge_number}
 use Rattle.ssa_ir.specs.Inputs.{Inputs, Answer, parameter_word, symbol_word}
 use Rattle.ssa_ir.specs.Phis.{entered}
 use Rattle.ssa_ir.specs.declared.role.Role.{Role}
-use Rattle.ssa_ir.specs.declared.role.Role.TheVariants.{Computes, TakesParameter, TakesAddress, Loads, Stores, ChecksNil, Calls, Rests, NotBuilt}
+use Rattle.ssa_ir.specs.declared.role.Role.TheVariants.{Computes, TakesParameter, TakesAddress, Loads, Stores}
+use Rattle.ssa_ir.specs.declared.role.Role.TheVariants.{ChecksNil, Calls, Rests, NotBuilt}
 use Rattle.ssa_ir.specs.Roles.{role}
-use Rattle.ssa_ir.specs.Run.{Form, State, with_word, computed, pointer, loaded_word, stored_memory, shown_of, with_answer, takes_answer, control_word, is_set, run_role, run_values, arrives, goes_to, leaves, run_control, run_block, to_counted, turns, begun, run_from, run}
+use Rattle.ssa_ir.specs.Run.{Form, State, with_word, computed, pointer, loaded_word, stored_memory, shown_of}
+use Rattle.ssa_ir.specs.Run.{with_answer, takes_answer, control_word, is_set, run_role, run_values, arrives, goes_to}
+use Rattle.ssa_ir.specs.Run.{leaves, run_control, run_block, to_counted, turns, begun, run_from, run}
 use Rattle.ssa_ir.specs.Showing.{ends, call_then}
 use Rattle.ssa_ir.specs.Widths.{kept}
 
@@ -38,29 +42,36 @@ stays_either false a b a' b' p q = q
 pub call_stays : (c : CallShown) (a b : Shown) → Stays a b → Stays (call_then c a) (call_then c b)
 call_stays c a b p going = ap (call_then c) (p going)
 
-answer_stays : (form : Form) (block : List Value) (v : Value) (s : State) (answers : List Answer) (go more : State → Shown)
-    → ((t : State) → Stays (go t) (more t)) → Stays (takes_answer form block v s answers go) (takes_answer form block v s answers more)
+answer_stays : (form : Form) (block : List Value) (v : Value) (s : State) (answers : List Answer)
+    (go more : State → Shown)
+    → ((t : State) → Stays (go t) (more t))
+    → Stays (takes_answer form block v s answers go) (takes_answer form block v s answers more)
 answer_stays form block v s [] go more h = λ _. refl
 answer_stays form block v s (a ∷ answers) go more h = h (with_answer form block v s a answers)
 
-role_stays : (form : Form) (inputs : Inputs) (block : List Value) (v : Value) (r : Role) (s : State) (go more : State → Shown)
-    → ((t : State) → Stays (go t) (more t)) → Stays (run_role form inputs block v r s go) (run_role form inputs block v r s more)
+role_stays : (form : Form) (inputs : Inputs) (block : List Value) (v : Value) (r : Role) (s : State)
+    (go more : State → Shown)
+    → ((t : State) → Stays (go t) (more t))
+    → Stays (run_role form inputs block v r s go) (run_role form inputs block v r s more)
 role_stays form inputs block v Computes s go more h = h (with_word s v.id.0 (computed v s.words))
 role_stays form inputs block v TakesParameter s go more h =
     h (with_word s v.id.0 (kept form.whole v.ty (parameter_word inputs v.aux)))
-role_stays form inputs block v TakesAddress s go more h = h (with_word s v.id.0 (symbol_word inputs (unwrap_or v.sym [])))
+role_stays form inputs block v TakesAddress s go more h =
+    h (with_word s v.id.0 (symbol_word inputs (unwrap_or v.sym [])))
 role_stays form inputs block v Loads s go more h = h (with_word s v.id.0 (loaded_word v s))
 role_stays form inputs block v Stores s go more h = h (record s { memory = stored_memory v s })
 role_stays form inputs block v ChecksNil s go more h =
     stays_either (eqb (pointer v s.words) 0) _ _ _ _ (λ _. refl) (h (with_word s v.id.0 (pointer v s.words)))
 role_stays form inputs block v Calls s go more h =
-    call_stays (shown_of form v s) (takes_answer form block v s s.answers go) (takes_answer form block v s s.answers more)
+    call_stays (shown_of form v s) (takes_answer form block v s s.answers go)
+    (takes_answer form block v s s.answers more)
     (answer_stays form block v s s.answers go more h)
 role_stays form inputs block v Rests s go more h = h s
 role_stays form inputs block v NotBuilt s go more h = λ _. refl
 
 values_stay : (form : Form) (inputs : Inputs) (block values : List Value) (s : State) (go more : State → Shown)
-    → ((t : State) → Stays (go t) (more t)) → Stays (run_values form inputs block values s go) (run_values form inputs block values s more)
+    → ((t : State) → Stays (go t) (more t))
+    → Stays (run_values form inputs block values s go) (run_values form inputs block values s more)
 values_stay form inputs block [] s go more h = h s
 values_stay form inputs block (v ∷ values) s go more h =
     role_stays form inputs block v (role v.op) s (λ t. run_values form inputs block values t go)
@@ -83,11 +94,13 @@ leaves_stays f go more b j s h = goes_to_stays f go more b j s (slice_get b.succ
 control_stays : (form : Form) (f : Func) (go more : Onward) (b : Block) (k : Kind) (s : State)
     → StaysOnward go more → Stays (run_control form f go b k s) (run_control form f more b k s)
 control_stays form f go more b Plain s h = leaves_stays f go more b 0 s h
-control_stays form f go more b If s h = leaves_stays f go more b (cond (is_set (control_word s.words b.control)) 0 1) s h
+control_stays form f go more b If s h =
+    leaves_stays f go more b (cond (is_set (control_word s.words b.control)) 0 1) s h
 control_stays form f go more b Ret s h = λ _. refl
 control_stays form f go more b Exit s h = λ _. refl
 control_stays form f go more b (Cond c) s h = λ _. refl
-control_stays form f go more b Bit s h = leaves_stays f go more b (cond (is_set (control_word s.words b.control)) 0 1) s h
+control_stays form f go more b Bit s h =
+    leaves_stays f go more b (cond (is_set (control_word s.words b.control)) 0 1) s h
 
 block_stays : (form : Form) (inputs : Inputs) (f : Func) (go more : Onward) → StaysOnward go more
     → StaysOnward (run_block form inputs f go) (run_block form inputs f more)
@@ -101,7 +114,8 @@ counted_stays form inputs f go more zero h b edge s =
     stays_either b.id.split _ _ _ _ (λ _. refl) (h b edge s)
 counted_stays form inputs f go more (suc k) h b edge s =
     stays_either b.id.split _ _ _ _
-    (block_stays form inputs f (to_counted form inputs f go k) (to_counted form inputs f more k) (counted_stays form inputs f go more k h) b edge s)
+    (block_stays form inputs f (to_counted form inputs f go k) (to_counted form inputs f more k)
+    (counted_stays form inputs f go more k h) b edge s)
     (h b edge s)
 
 turns_stay : (form : Form) (inputs : Inputs) (f : Func) (n m : ℕ) → n ≤ m
@@ -111,7 +125,8 @@ turns_stay form inputs f (suc n) zero le b edge s = absurd (omega arith)
 turns_stay form inputs f (suc n) (suc m) le b edge s =
     block_stays form inputs f (to_counted form inputs f (turns form inputs f n) (length f.blocks))
     (to_counted form inputs f (turns form inputs f m) (length f.blocks))
-    (counted_stays form inputs f (turns form inputs f n) (turns form inputs f m) (length f.blocks) (turns_stay form inputs f n m (omega arith)))
+    (counted_stays form inputs f (turns form inputs f n) (turns form inputs f m) (length f.blocks)
+    (turns_stay form inputs f n m (omega arith)))
     b edge s
 
 from_stays : (form : Form) (inputs : Inputs) (f : Func) (n m : ℕ) (blocks : List Block) → n ≤ m
@@ -119,7 +134,8 @@ from_stays : (form : Form) (inputs : Inputs) (f : Func) (n m : ℕ) (blocks : Li
 from_stays form inputs f n m [] le = λ _. refl
 from_stays form inputs f n m (b ∷ blocks) le = turns_stay form inputs f n m le b None (begun inputs)
 
-pub ended_stays : (form : Form) (inputs : Inputs) (f : Func) (n m : ℕ) → n ≤ m → Stays (run form inputs f n) (run form inputs f m)
+pub ended_stays : (form : Form) (inputs : Inputs) (f : Func) (n m : ℕ) → n ≤ m
+    → Stays (run form inputs f n) (run form inputs f m)
 ended_stays form inputs f n m le = from_stays form inputs f n m f.blocks le
 
 from_zero : (form : Form) (inputs : Inputs) (f : Func) (blocks : List Block) → 1 ≤ length blocks

@@ -1,5 +1,7 @@
 -- Tests of a unit that is written out: where all answer true, it is well formed.
-use Rattle.std.proofs.Common.{◌≡◌, ◌≢◌, ℕ, zero, suc, ◌≤◌, ◌+◌, ◌⊎◌, inl, inr, ℤ, pos, negsuc, Bool, true, false, not, ◌&&◌, ◌||◌, ◌==◌, nat_le, nat_lt, is_some, is_none, Decides, List, [], ◌∷◌, length, get_or, map, All, sum_by, Option, Some, None, IfSome, bytes_eq, ap, refl, sym, arith}
+use Rattle.std.proofs.Common.{◌≡◌, ◌≢◌, ℕ, zero, suc, ◌≤◌, ◌+◌, ◌⊎◌, inl, inr, ℤ, pos, negsuc, Bool, true, false, not}
+use Rattle.std.proofs.Common.{◌&&◌, ◌||◌, ◌==◌, nat_le, nat_lt, is_some, is_none, Decides, List, [], ◌∷◌, length}
+use Rattle.std.proofs.Common.{get_or, map, All, sum_by, Option, Some, None, IfSome, bytes_eq, ap, refl, sym, arith}
 use Rattle.std.specs.List.{list_all}
 use Rattle.std.proofs.lemmas.Bool.{and_parts, leb-true, ltb-true, eqb-true}
 use Rattle.std.proofs.lemmas.Bool.Decides.{Decides-eqb, Decides-not}
@@ -8,6 +10,9 @@ use Rattle.std.proofs.lemmas.List.Sums.{AllPass-from_list_all}
 use Rattle.std.proofs.lemmas.Slice.Eq.{bytes_eq-Decides}
 use Rattle.gossa_base.specs.declared.ids.ValueId.{ValueId}
 use Rattle.gossa_base.specs.declared.ids.BlockId.{BlockId}
+use Rattle.ssa_ir.specs.declared.limits.TheConstants.{MAX_ARGS, MAX_BLOCKS, MAX_BOUND, MAX_CASES, MAX_CASE_BYTES}
+use Rattle.ssa_ir.specs.declared.limits.TheConstants.{MAX_FUNCTIONS, MAX_JUNK_WORDS, MAX_NUMBER, MAX_PARAMS}
+use Rattle.ssa_ir.specs.declared.limits.TheConstants.{MAX_PIECE_BYTES, MAX_REPLIES, MAX_RESULTS, MAX_SIGS, MAX_VALUES}
 use Rattle.ssa_ir.specs.declared.op.Op.{Op}
 use Rattle.ssa_ir.specs.declared.op.AuxRule.{AuxRule}
 use Rattle.ssa_ir.specs.declared.op.AuxRule.TheVariants.{Nothing, Int, Bool as TrueOrFalse, Sym, Elem, Dropped}
@@ -24,11 +29,14 @@ use Rattle.ssa_ir.specs.declared.func.SsaUnit.{SsaUnit}
 use Rattle.ssa_ir.specs.declared.case.Piece.{Piece}
 use Rattle.ssa_ir.specs.declared.case.Reply.{Reply}
 use Rattle.ssa_ir.specs.declared.case.Case.{Case}
-use Rattle.ssa_ir.specs.Limits.{SigWithinLimits, ValueWithinLimits, FuncWithinLimits, ReplyWithinLimits, CaseWithinLimits, WithinLimits, tuple_words, bytes_in}
+use Rattle.ssa_ir.specs.Limits.{SigWithinLimits, ValueWithinLimits, FuncWithinLimits, ReplyWithinLimits}
+use Rattle.ssa_ir.specs.Limits.{CaseWithinLimits, WithinLimits, tuple_words, bytes_in}
 use Rattle.ssa_ir.specs.Lookups.{signatures, values_of, value_of, block_of}
 use Rattle.ssa_ir.specs.Names.{IsName, has_name_bytes}
 use Rattle.ssa_ir.specs.Ops.{row_of, is_machine}
-use Rattle.ssa_ir.specs.WellFormed.{IsNumber, Differ, makes_tuple, CanBeWritten, HasItsNumber, HasItsSymbol, HasItsElem, WellFormedValue, HasItsSuccessors, HasItsControl, WellFormedBlock, WellFormedFunc, WellFormedCase, WellFormed}
+use Rattle.ssa_ir.specs.WellFormed.{IsNumber, Differ, makes_tuple, CanBeWritten, HasItsNumber, HasItsSymbol, HasItsElem}
+use Rattle.ssa_ir.specs.WellFormed.{WellFormedValue, HasItsSuccessors, HasItsControl, WellFormedBlock, WellFormedFunc}
+use Rattle.ssa_ir.specs.WellFormed.{WellFormedCase, WellFormed}
 
 -- ---- tests, and lists of them
 
@@ -79,14 +87,14 @@ none_tested (Some x) h = cc
 -- ---- limits
 
 abbrev sig_limits : Sig → List Bool
-sig_limits s = nat_le (length s.params) 64 ∷ nat_le (length s.results) 64 ∷ []
+sig_limits s = nat_le (length s.params) MAX_PARAMS ∷ nat_le (length s.results) MAX_RESULTS ∷ []
 
 sig_limits_tested : (s : Sig) → all_true (sig_limits s) ≡ true → SigWithinLimits s
 sig_limits_tested s h =
     let at = test_at (sig_limits s) h in record { params = leb-true _ _ (at 0); results = leb-true _ _ (at 1) }
 
 abbrev value_limits : Value → List Bool
-value_limits v = nat_le (length v.args) 380 ∷ nat_le (length (tuple_words v.ty)) 64 ∷ []
+value_limits v = nat_le (length v.args) MAX_ARGS ∷ nat_le (length (tuple_words v.ty)) MAX_RESULTS ∷ []
 
 value_limits_tested : (v : Value) → all_true (value_limits v) ≡ true → ValueWithinLimits v
 value_limits_tested v h =
@@ -94,10 +102,10 @@ value_limits_tested v h =
 
 abbrev func_limits : Func → List Bool
 func_limits f =
-    nat_le (length (values_of f)) 8192
-    ∷ nat_le (length f.blocks) 1024
+    nat_le (length (values_of f)) MAX_VALUES
+    ∷ nat_le (length f.blocks) MAX_BLOCKS
     ∷ list_all (λ v. all_true (value_limits v)) (values_of f)
-    ∷ list_all (λ (b : Block). nat_le (length b.preds) 380) f.blocks
+    ∷ list_all (λ (b : Block). nat_le (length b.preds) MAX_ARGS) f.blocks
     ∷ []
 
 func_limits_tested : (f : Func) → all_true (func_limits f) ≡ true → FuncWithinLimits f
@@ -105,18 +113,18 @@ func_limits_tested f h = let at = test_at (func_limits f) h in record {
   values = leb-true _ _ (at 0);
   blocks = leb-true _ _ (at 1);
   each_value = all_tested value_limits_tested (values_of f) (at 2);
-  preds = all_tested (λ b. leb-true (length b.preds) 380) f.blocks (at 3);
+  preds = all_tested (λ b. leb-true (length b.preds) MAX_ARGS) f.blocks (at 3);
 }
 
 -- each piece stands on one line
 abbrev on_lines : List Piece → Bool
-on_lines pieces = list_all (λ p. nat_le (length p.bytes) 1024) pieces
+on_lines pieces = list_all (λ p. nat_le (length p.bytes) MAX_PIECE_BYTES) pieces
 
-on_lines_tested : (pieces : List Piece) → on_lines pieces ≡ true → All (λ p. length p.bytes ≤ 1024) pieces
-on_lines_tested pieces h = all_tested (λ (p : Piece). leb-true (length p.bytes) 1024) pieces h
+on_lines_tested : (pieces : List Piece) → on_lines pieces ≡ true → All (λ p. length p.bytes ≤ MAX_PIECE_BYTES) pieces
+on_lines_tested pieces h = all_tested (λ (p : Piece). leb-true (length p.bytes) MAX_PIECE_BYTES) pieces h
 
 abbrev reply_limits : Reply → List Bool
-reply_limits r = nat_le (length r.junk.words) 8192 ∷ on_lines r.writes ∷ []
+reply_limits r = nat_le (length r.junk.words) MAX_JUNK_WORDS ∷ on_lines r.writes ∷ []
 
 reply_limits_tested : (r : Reply) → all_true (reply_limits r) ≡ true → ReplyWithinLimits r
 reply_limits_tested r h = let at = test_at (reply_limits r) h in record {
@@ -129,11 +137,11 @@ bytes_of_case c = bytes_in c.mem + sum_by (λ (r : Reply). bytes_in r.writes) c.
 
 abbrev case_limits : Case → List Bool
 case_limits c =
-    nat_le c.bound 1000000
-    ∷ nat_le (length c.junk.words) 8192
+    nat_le c.bound MAX_BOUND
+    ∷ nat_le (length c.junk.words) MAX_JUNK_WORDS
     ∷ on_lines c.mem
-    ∷ nat_le (bytes_of_case c) 65536
-    ∷ nat_le (length c.replies) 4096
+    ∷ nat_le (bytes_of_case c) MAX_CASE_BYTES
+    ∷ nat_le (length c.replies) MAX_REPLIES
     ∷ list_all (λ r. all_true (reply_limits r)) c.replies
     ∷ []
 
@@ -142,16 +150,16 @@ case_limits_tested c h = let at = test_at (case_limits c) h in record {
   bound = leb-true _ _ (at 0);
   junk = leb-true _ _ (at 1);
   mem = on_lines_tested c.mem (at 2);
-  bytes = leb-true (bytes_of_case c) 65536 (at 3);
+  bytes = leb-true (bytes_of_case c) MAX_CASE_BYTES (at 3);
   replies = leb-true _ _ (at 4);
   each_reply = all_tested reply_limits_tested c.replies (at 5);
 }
 
 abbrev unit_limits : SsaUnit → List Bool
 unit_limits u =
-    nat_le (length u.funcs) 256
-    ∷ nat_le (length u.sigs) 1024
-    ∷ nat_le (length u.cases) 64
+    nat_le (length u.funcs) MAX_FUNCTIONS
+    ∷ nat_le (length u.sigs) MAX_SIGS
+    ∷ nat_le (length u.cases) MAX_CASES
     ∷ list_all (λ s. all_true (sig_limits s)) (signatures u)
     ∷ list_all (λ f. all_true (func_limits f)) u.funcs
     ∷ list_all (λ c. all_true (case_limits c)) u.cases
@@ -170,7 +178,7 @@ unit_limits_tested u h = let at = test_at (unit_limits u) h in record {
 -- ---- numbers and names
 
 abbrev number_tests : ℕ → List Bool
-number_tests n = nat_le 1 n ∷ nat_le n 1000000 ∷ []
+number_tests n = nat_le 1 n ∷ nat_le n MAX_NUMBER ∷ []
 
 number_tested : (n : ℕ) → all_true (number_tests n) ≡ true → IsNumber n
 number_tested n h =

@@ -21,7 +21,8 @@ places_from registers taken word (t ∷ types) =
 abbrev pub word_behind : (registers taken word : ℕ) → List Scalar → ℕ
 word_behind registers taken word [] = word
 word_behind registers taken word (t ∷ types) =
-    if nat_lt taken registers then word_behind registers (taken + 1) word types else word_behind registers taken (word + 1) types
+    if nat_lt taken registers then word_behind registers (taken + 1) word types else word_behind registers taken
+    (word + 1) types
 
 -- the places of a signature's parameters, for this many registers
 abbrev pub parameter_places : ℕ → Sig → List AbiPlace

@@ -1,6 +1,8 @@
--- What the families of ops compute, at a width of k bits, 1 to 64. An answer is below 2 to the k and hangs on nothing but the
--- low k bits of the operands, except that a count of a shift is a whole word, and that a chosen word is answered whole.
-use Rattle.std.specs.Prelude.{ℕ, ℤ, pos, negsuc, neg_ℤ, ◌-ℤ◌, ◌+◌, ◌-◌, ◌*◌, ◌/◌, ◌%◌, ◌^◌, ◌==◌, Bool, true, false, if◌then◌else◌, nat_lt, nat_le, int_lt, int_le, int_div, int_rem, bit_and, bit_or, bit_xor}
+-- What the families of ops compute, at a width of k bits, 1 to 64. An answer is below 2 to the k and hangs on nothing
+-- but the low k bits of the operands, except that a count of a shift is a whole word, and that a chosen word is
+-- answered whole.
+use Rattle.std.specs.Prelude.{ℕ, ℤ, pos, negsuc, neg_ℤ, ◌-ℤ◌, ◌+◌, ◌-◌, ◌*◌, ◌/◌, ◌%◌, ◌^◌, ◌==◌, Bool, true, false}
+use Rattle.std.specs.Prelude.{if◌then◌else◌, nat_lt, nat_le, int_lt, int_le, int_div, int_rem, bit_and, bit_or, bit_xor}
 use Rattle.gossa_base.specs.Words.{low, sext, signed_at, word_of}
 
 -- an integer modulo 2 to the k, for k at most 64
@@ -76,7 +78,8 @@ sign_of (negsuc n) = negsuc 0
 
 -- copies of the sign come in
 abbrev pub signed_shift_right_at : (k a count : ℕ) → ℕ
-signed_shift_right_at k a count = cut k (if nat_lt count 64 then floor_shift (signed_at k a) count else sign_of (signed_at k a))
+signed_shift_right_at k a count =
+    cut k (if nat_lt count 64 then floor_shift (signed_at k a) count else sign_of (signed_at k a))
 
 -- ---- comparisons: 1 or 0
 

@@ -4,7 +4,8 @@ use Rattle.gossa_base.specs.declared.ids.ValueId.{ValueId}
 use Rattle.gossa_base.specs.declared.ids.BlockId.{BlockId}
 use Rattle.ssa_ir.specs.declared.op.Width.TheVariants.{W64}
 use Rattle.ssa_ir.specs.declared.op.Op.{Op}
-use Rattle.ssa_ir.specs.declared.op.Op.TheVariants.{InitMem, Arg, Const, Phi, Less, IsInBounds, Lsh, AddPtr, Load, Add, MakeResult, StaticLECall, SelectN}
+use Rattle.ssa_ir.specs.declared.op.Op.TheVariants.{InitMem, Arg, Const, Phi, Less, IsInBounds, Lsh, AddPtr, Load, Add}
+use Rattle.ssa_ir.specs.declared.op.Op.TheVariants.{MakeResult, StaticLECall, SelectN}
 use Rattle.ssa_ir.specs.declared.types.Scalar.{Scalar}
 use Rattle.ssa_ir.specs.declared.types.Scalar.TheVariants.{I64, U64, Bool, Ptr}
 use Rattle.ssa_ir.specs.declared.types.Sig.{Sig}

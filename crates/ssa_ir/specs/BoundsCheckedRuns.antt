@@ -29,8 +29,8 @@ sum_run inputs bound = run (generic (sig_of bounds_checked)) inputs sum_func bou
 abbrev pub panics : ℕ → ℕ → CallShown
 panics index len = record { callee = panic_index.name; args = index ∷ len ∷ []; changed = [] }
 
--- in every memory: no word is summed; both are, modulo 2 to the 64, in 9 turns and in no fewer; and where three are to be,
--- index 2 is shown to the callee, and then the program exits, or has no reply
+-- in every memory: no word is summed; both are, modulo 2 to the 64, in 9 turns and in no fewer; and where three are to
+-- be, index 2 is shown to the callee, and then the program exits, or has no reply
 pub record BoundsCheckedRuns : Type 0 where
   pub none : (memory : Memory) → sum_run (sum_inputs 0 memory []) 100 ≡ ends (Returned (0 ∷ []) [])
   pub both :

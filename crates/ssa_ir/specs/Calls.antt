@@ -20,7 +20,8 @@ abbrev pub parameter_types : Option Sig → List Scalar
 parameter_types None = []
 parameter_types (Some sig) = sig.params
 
--- a call of this name, by the callee's signature, with these argument words, where the memory changed from one to the other
+-- a call of this name, by the callee's signature, with these argument words, where the memory changed from one to the
+-- other
 abbrev pub shown_call : List ℕ → Option Sig → List ℕ → (since memory : Memory) → CallShown
 shown_call name sig words since memory =
     record { callee = name; args = words_at (parameter_types sig) words; changed = changed since memory }
@@ -29,7 +30,8 @@ abbrev pub result_or : (whole : Bool) → Answer → (call : ValueId) → Option
 result_or whole answer call None w = w
 result_or whole answer call (Some v) w = if selects call v then kept whole v.ty (result_word answer v.aux) else w
 
--- the words as an answered call leaves them: each select of the call among these values has the answer's word of its number
+-- the words as an answered call leaves them: each select of the call among these values has the answer's word of its
+-- number
 abbrev pub answered : (whole : Bool) → List Value → (call : ValueId) → Answer → (ℕ → ℕ) → ℕ → ℕ
 answered whole values call answer words n =
     result_or whole answer call (value_named values (record { 0 = n })) (words n)

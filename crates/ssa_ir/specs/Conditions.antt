@@ -1,10 +1,13 @@
 -- The flags N, Z, C and V of a comparison, and the ten conditions on them that comparisons of integers need, as the A64
 -- manual has them.
-use Rattle.std.specs.Prelude.{ℕ, ℤ, pos, negsuc, neg_ℤ, ◌-ℤ◌, ◌+◌, ◌-◌, ◌*◌, ◌/◌, ◌%◌, ◌^◌, ◌==◌, Bool, true, false, not, ◌&&◌, ◌||◌, if◌then◌else◌, nat_lt, nat_le, int_lt, int_le, bit_and, List, [], ◌∷◌, Option, None, Some, slice_get}
+use Rattle.std.specs.Prelude.{ℕ, ℤ, pos, negsuc, neg_ℤ, ◌-ℤ◌, ◌+◌, ◌-◌, ◌*◌, ◌/◌, ◌%◌, ◌^◌, ◌==◌, Bool, true, false}
+use Rattle.std.specs.Prelude.{not, ◌&&◌, ◌||◌, if◌then◌else◌, nat_lt, nat_le, int_lt, int_le, bit_and, List, [], ◌∷◌}
+use Rattle.std.specs.Prelude.{Option, None, Some, slice_get}
 use Rattle.gossa_base.specs.Words.{low, signed_at}
 use Rattle.ssa_ir.specs.declared.op.CondCode.{CondCode}
 use Rattle.ssa_ir.specs.declared.op.CondCode.TheVariants.{EQ, NE, LT, LE, GT, GE, LO, LS, HI, HS}
-use Rattle.ssa_ir.specs.Arithmetic.{and_at, difference_at, is_at_most, is_below, is_below_or_same, is_equal, is_less, one_where}
+use Rattle.ssa_ir.specs.Arithmetic.{and_at, difference_at, is_at_most, is_below, is_below_or_same, is_equal, is_less}
+use Rattle.ssa_ir.specs.Arithmetic.{one_where}
 
 -- the four flags
 pub record Flags : Type 0 where

@@ -1,18 +1,41 @@
--- What an op computes of its operands' words. A generic op answers at its width, and reads each operand at the width of its
--- class; Copy and CondSelect answer the word that they choose, whole. An op of the machine answers a whole word: MULW, DIVW,
--- UDIVW, MODW and UMODW read the low 32 bits, and their upper half is clear.
+-- What an op computes of its operands' words. A generic op answers at its width, and reads each operand at the width of
+-- its class; Copy and CondSelect answer the word that they choose, whole. An op of the machine answers a whole word:
+-- MULW, DIVW, UDIVW, MODW and UMODW read the low 32 bits, and their upper half is clear.
 use Rattle.std.specs.Prelude.{ℕ, ℤ, ◌%◌, ◌==◌, not}
 use Rattle.gossa_base.specs.Words.{low, sext, word_of}
 use Rattle.ssa_ir.specs.declared.op.CondCode.TheVariants.{EQ, NE, LT, LE, GT, GE, LO, LS, HI, HS}
 use Rattle.ssa_ir.specs.declared.op.Op.{Op}
-use Rattle.ssa_ir.specs.declared.op.Op.TheVariants.{Load, Store, NilCheck, Addr, Phi, Arg, InitMem, StaticLECall, SelectN, MakeResult, Add, Sub, Mul, And, Or, Xor, Neg, Com, Div, DivU, Mod, ModU, Lsh, Rsh, RshU, Eq, Neq, Less, Leq, LessU, LeqU, EqB, NeqB, AndB, OrB, Not, EqPtr, NeqPtr, IsNonNil, IsInBounds, IsSliceInBounds, SignExt, ZeroExt, Trunc, AddPtr, OffPtr, CondSelect, Const, ConstBool, ConstNil, SB, Copy}
-use Rattle.ssa_ir.specs.declared.op.Op.TheVariants.{Arm64MOVDconst, Arm64ADD, Arm64SUB, Arm64AND, Arm64OR, Arm64XOR, Arm64MUL, Arm64MULW, Arm64ADDconst, Arm64SUBconst, Arm64ANDconst, Arm64ORconst, Arm64XORconst, Arm64NEG, Arm64MVN, Arm64DIV, Arm64UDIV, Arm64DIVW, Arm64UDIVW, Arm64MOD, Arm64UMOD, Arm64MODW, Arm64UMODW, Arm64SLL, Arm64SRL, Arm64SRA, Arm64SLLconst, Arm64SRLconst, Arm64SRAconst, Arm64MOVBreg, Arm64MOVHreg, Arm64MOVWreg, Arm64MOVBUreg, Arm64MOVHUreg, Arm64MOVWUreg, Arm64CMP, Arm64CMPW, Arm64CMPconst, Arm64CMPWconst, Arm64TSTWconst, Arm64Equal, Arm64NotEqual, Arm64LessThan, Arm64LessEqual, Arm64GreaterThan, Arm64GreaterEqual, Arm64LessThanU, Arm64LessEqualU, Arm64GreaterThanU, Arm64GreaterEqualU, Arm64CSEL, Arm64MOVDaddr, Arm64MOVBload, Arm64MOVHload, Arm64MOVWload, Arm64MOVBUload, Arm64MOVHUload, Arm64MOVWUload, Arm64MOVDload, Arm64MOVBstore, Arm64MOVHstore, Arm64MOVWstore, Arm64MOVDstore, Arm64LoweredNilCheck, Arm64CALLstatic}
-use Rattle.ssa_ir.specs.Arithmetic.{sum_at, difference_at, product_at, negative_at, and_at, or_at, xor_at, inverted_at, quotient_at, unsigned_quotient_at, remainder_at, unsigned_remainder_at, shift_left_at, shift_right_at, signed_shift_right_at, one_where, is_equal, is_less, is_at_most, is_below, is_below_or_same, sign_extended, chosen}
+use Rattle.ssa_ir.specs.declared.op.Op.TheVariants.{Load, Store, NilCheck, Addr, Phi, Arg, InitMem, StaticLECall}
+use Rattle.ssa_ir.specs.declared.op.Op.TheVariants.{SelectN, MakeResult, Add, Sub, Mul, And, Or, Xor, Neg, Com, Div}
+use Rattle.ssa_ir.specs.declared.op.Op.TheVariants.{DivU, Mod, ModU, Lsh, Rsh, RshU, Eq, Neq, Less, Leq, LessU, LeqU}
+use Rattle.ssa_ir.specs.declared.op.Op.TheVariants.{EqB, NeqB, AndB, OrB, Not, EqPtr, NeqPtr, IsNonNil, IsInBounds}
+use Rattle.ssa_ir.specs.declared.op.Op.TheVariants.{IsSliceInBounds, SignExt, ZeroExt, Trunc, AddPtr, OffPtr}
+use Rattle.ssa_ir.specs.declared.op.Op.TheVariants.{CondSelect, Const, ConstBool, ConstNil, SB, Copy}
+use Rattle.ssa_ir.specs.declared.op.Op.TheVariants.{Arm64MOVDconst, Arm64ADD, Arm64SUB, Arm64AND, Arm64OR, Arm64XOR}
+use Rattle.ssa_ir.specs.declared.op.Op.TheVariants.{Arm64MUL, Arm64MULW, Arm64ADDconst, Arm64SUBconst, Arm64ANDconst}
+use Rattle.ssa_ir.specs.declared.op.Op.TheVariants.{Arm64ORconst, Arm64XORconst, Arm64NEG, Arm64MVN, Arm64DIV}
+use Rattle.ssa_ir.specs.declared.op.Op.TheVariants.{Arm64UDIV, Arm64DIVW, Arm64UDIVW, Arm64MOD, Arm64UMOD, Arm64MODW}
+use Rattle.ssa_ir.specs.declared.op.Op.TheVariants.{Arm64UMODW, Arm64SLL, Arm64SRL, Arm64SRA, Arm64SLLconst}
+use Rattle.ssa_ir.specs.declared.op.Op.TheVariants.{Arm64SRLconst, Arm64SRAconst, Arm64MOVBreg, Arm64MOVHreg}
+use Rattle.ssa_ir.specs.declared.op.Op.TheVariants.{Arm64MOVWreg, Arm64MOVBUreg, Arm64MOVHUreg, Arm64MOVWUreg, Arm64CMP}
+use Rattle.ssa_ir.specs.declared.op.Op.TheVariants.{Arm64CMPW, Arm64CMPconst, Arm64CMPWconst, Arm64TSTWconst}
+use Rattle.ssa_ir.specs.declared.op.Op.TheVariants.{Arm64Equal, Arm64NotEqual, Arm64LessThan, Arm64LessEqual}
+use Rattle.ssa_ir.specs.declared.op.Op.TheVariants.{Arm64GreaterThan, Arm64GreaterEqual, Arm64LessThanU}
+use Rattle.ssa_ir.specs.declared.op.Op.TheVariants.{Arm64LessEqualU, Arm64GreaterThanU, Arm64GreaterEqualU, Arm64CSEL}
+use Rattle.ssa_ir.specs.declared.op.Op.TheVariants.{Arm64MOVDaddr, Arm64MOVBload, Arm64MOVHload, Arm64MOVWload}
+use Rattle.ssa_ir.specs.declared.op.Op.TheVariants.{Arm64MOVBUload, Arm64MOVHUload, Arm64MOVWUload, Arm64MOVDload}
+use Rattle.ssa_ir.specs.declared.op.Op.TheVariants.{Arm64MOVBstore, Arm64MOVHstore, Arm64MOVWstore, Arm64MOVDstore}
+use Rattle.ssa_ir.specs.declared.op.Op.TheVariants.{Arm64LoweredNilCheck, Arm64CALLstatic}
+use Rattle.ssa_ir.specs.Arithmetic.{sum_at, difference_at, product_at, negative_at, and_at, or_at, xor_at, inverted_at}
+use Rattle.ssa_ir.specs.Arithmetic.{quotient_at, unsigned_quotient_at, remainder_at, unsigned_remainder_at}
+use Rattle.ssa_ir.specs.Arithmetic.{shift_left_at, shift_right_at, signed_shift_right_at, one_where, is_equal, is_less}
+use Rattle.ssa_ir.specs.Arithmetic.{is_at_most, is_below, is_below_or_same, sign_extended, chosen}
 use Rattle.ssa_ir.specs.Conditions.{packed, flags_of_difference, flags_of_test, holds, condition_at, selected}
 use Rattle.ssa_ir.specs.Widths.{bits, narrow_of, wide_of}
 
--- the word of a pure op, by its number, its operands' words and the flags, which stand among the arguments of the ops that
--- read them; operands that an op lacks play no part. An op that isn't pure answers 0, and so does an address, which the case gives
+-- the word of a pure op, by its number, its operands' words and the flags, which stand among the arguments of the ops
+-- that read them; operands that an op lacks play no part. An op that isn't pure answers 0, and so does an address,
+-- which the case gives
 abbrev pub eval : Op → ℤ → (a b c flags : ℕ) → ℕ
 eval (Add w) aux a b c flags = sum_at (bits w) a b
 eval (Sub w) aux a b c flags = difference_at (bits w) a b

@@ -1,29 +1,13 @@
 -- The first order of a block: the phis, and then repeatedly the first value in text order whose arguments in the block
 -- stand before it, and, where it makes a memory or calls, behind the readers of the memory that it takes.
-use Rattle.std.specs.Prelude.{ℕ, zero, suc, ◌==◌, int_lt, Bool, true, false, not, ◌&&◌, ◌||◌, if◌then◌else◌, List, [], ◌∷◌, ◌++◌, length, filter, Option, None, Some}
+use Rattle.std.specs.Prelude.{ℕ, zero, suc, ◌==◌, int_lt, Bool, true, false, not, ◌&&◌, ◌||◌, if◌then◌else◌, List, []}
+use Rattle.std.specs.Prelude.{◌∷◌, ◌++◌, length, filter, Option, None, Some}
 use Rattle.std.specs.List.{list_all, list_any, last_or}
 use Rattle.gossa_base.specs.declared.ids.ValueId.{ValueId}
+use Rattle.ssa_ir.specs.OpKinds.{changes_memory, is_call, is_follower, is_phi, reads_memory}
 use Rattle.ssa_ir.specs.declared.op.Op.{Op}
-use Rattle.ssa_ir.specs.declared.op.Op.TheVariants.{Phi, StaticLECall, SelectN, Arm64CALLstatic}
 use Rattle.ssa_ir.specs.declared.func.Value.{Value}
 use Rattle.ssa_ir.specs.Ops.{row_of}
-
-abbrev pub is_phi : Op → Bool
-is_phi Phi = true
-is_phi _ = false
-
-abbrev pub is_call : Op → Bool
-is_call StaticLECall = true
-is_call Arm64CALLstatic = true
-is_call _ = false
-
--- the ops that read a memory and make none: loads and nil checks
-abbrev pub reads_memory : Op → Bool
-reads_memory op = (row_of op).reads_mem
-
--- the ops that make a memory, and calls
-abbrev pub changes_memory : Op → Bool
-changes_memory op = (row_of op).makes_mem || is_call op
 
 abbrev pub same_value : ValueId → ValueId → Bool
 same_value a b = a.0 == b.0
@@ -66,11 +50,6 @@ abbrev pub split_ready : (block placed rest : List Value) → Option (Value × L
 split_ready block placed [] = None
 split_ready block placed (v ∷ rest) = ready_or_later v rest (is_ready block placed v) (split_ready block placed rest)
 
--- whether a value of this op stands with another one: the selects of a call do
-abbrev pub is_follower : Op → Bool
-is_follower SelectN = true
-is_follower _ = false
-
 -- whether a value is a select of a call
 abbrev pub selects : ValueId → Value → Bool
 selects id v = is_follower v.op && list_any (same_value id) v.args
@@ -92,7 +71,8 @@ followers_of block v op = if is_call op then by_number (filter (selects v.id) bl
 abbrev pub item : (block : List Value) → Value → List Value
 item block v = v ∷ followers_of block v v.op
 
-abbrev pub next_then : (block : List Value) → (Value → List Value → List Value) → Option (Value × List Value) → List Value
+abbrev pub next_then : (block : List Value) → (Value → List Value → List Value) → Option (Value × List Value)
+    → List Value
 next_then block go None = []
 next_then block go (Some (v, others)) = item block v ++ go v others
 

@@ -9,16 +9,16 @@ use Rattle.ssa_ir.specs.declared.case.Piece.{Piece}
 use Rattle.ssa_ir.specs.declared.case.Reply.{Reply}
 use Rattle.ssa_ir.specs.declared.case.Case.{Case}
 
--- what a callee answers: its result words (an absent one is 0), the memory that it wrote, what it left in all that holds
--- no result, and the word that the collector puts in each pointer slot outside the call's map
+-- what a callee answers: its result words (an absent one is 0), the memory that it wrote, what it left in all that
+-- holds no result, and the word that the collector puts in each pointer slot outside the call's map
 pub record Answer : Type 0 where
   pub words : List ℕ
   pub writes : List (ℕ × List ℕ)
   pub junk : ℕ → ℕ
   pub clobber : ℕ
 
--- the parameter words (an absent one is 0), the addresses of symbols, the memory, what stands in all else, and the answers
--- to calls, in order
+-- the parameter words (an absent one is 0), the addresses of symbols, the memory, what stands in all else, and the
+-- answers to calls, in order
 pub record Inputs : Type 0 where
   pub arguments : List ℕ
   pub symbols : List ℕ → ℕ

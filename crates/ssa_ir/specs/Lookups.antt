@@ -1,5 +1,5 @@
 -- Look-ups in units and functions. Each gives the first that fits; in a well-formed unit there is at most one.
-use Rattle.std.specs.Prelude.{ℕ, nat_eq, ◌==◌, Bool, List, ◌++◌, map, find, Option}
+use Rattle.std.specs.Prelude.{ℕ, nat_eq, ◌==◌, Bool, List, [], ◌∷◌, ◌++◌, map, find, Option, None}
 use Rattle.std.specs.Cmp.Lexicographic.{pointwise}
 use Rattle.std.specs.List.{flat_map, position_from}
 use Rattle.gossa_base.specs.declared.ids.ValueId.{ValueId}
@@ -49,3 +49,8 @@ value_of f id = value_named (values_of f) id
 -- the block of a number
 abbrev pub block_of : Func → BlockId → Option Block
 block_of f id = block_named f.blocks id
+
+-- the value that a select of these arguments names: its call
+abbrev pub named_by : Func → List ValueId → Option Value
+named_by f [] = None
+named_by f (a ∷ args) = value_of f a

@@ -9,8 +9,27 @@ use Rattle.ssa_ir.specs.declared.op.Width.TheVariants.{W8, W16, W32, W64}
 use Rattle.ssa_ir.specs.declared.op.WidthPair.{WidthPair}
 use Rattle.ssa_ir.specs.declared.op.WidthPair.TheVariants.{W8W16, W8W32, W8W64, W16W32, W16W64, W32W64}
 use Rattle.ssa_ir.specs.declared.op.Op.{Op}
-use Rattle.ssa_ir.specs.declared.op.Op.TheVariants.{Add, Sub, Mul, And, Or, Xor, Neg, Com, Div, DivU, Mod, ModU, Lsh, Rsh, RshU, Eq, Neq, Less, Leq, LessU, LeqU, EqB, NeqB, AndB, OrB, Not, EqPtr, NeqPtr, IsNonNil, IsInBounds, IsSliceInBounds, SignExt, ZeroExt, Trunc, AddPtr, OffPtr, Load, Store, NilCheck, CondSelect, Const, ConstBool, ConstNil, SB, Addr, Phi, Copy, Arg, InitMem, StaticLECall, SelectN, MakeResult}
-use Rattle.ssa_ir.specs.declared.op.Op.TheVariants.{Arm64MOVDconst, Arm64MOVDaddr, Arm64ADD, Arm64SUB, Arm64AND, Arm64OR, Arm64XOR, Arm64MUL, Arm64MULW, Arm64ADDconst, Arm64SUBconst, Arm64ANDconst, Arm64ORconst, Arm64XORconst, Arm64NEG, Arm64MVN, Arm64DIV, Arm64UDIV, Arm64DIVW, Arm64UDIVW, Arm64MOD, Arm64UMOD, Arm64MODW, Arm64UMODW, Arm64SLL, Arm64SRL, Arm64SRA, Arm64SLLconst, Arm64SRLconst, Arm64SRAconst, Arm64MOVBreg, Arm64MOVHreg, Arm64MOVWreg, Arm64MOVBUreg, Arm64MOVHUreg, Arm64MOVWUreg, Arm64CMP, Arm64CMPW, Arm64CMPconst, Arm64CMPWconst, Arm64TSTWconst, Arm64Equal, Arm64NotEqual, Arm64LessThan, Arm64LessEqual, Arm64GreaterThan, Arm64GreaterEqual, Arm64LessThanU, Arm64LessEqualU, Arm64GreaterThanU, Arm64GreaterEqualU, Arm64CSEL, Arm64MOVBload, Arm64MOVHload, Arm64MOVWload, Arm64MOVBUload, Arm64MOVHUload, Arm64MOVWUload, Arm64MOVDload, Arm64MOVBstore, Arm64MOVHstore, Arm64MOVWstore, Arm64MOVDstore, Arm64LoweredNilCheck, Arm64CALLstatic}
+use Rattle.ssa_ir.specs.declared.op.Op.TheVariants.{Add, Sub, Mul, And, Or, Xor, Neg, Com, Div, DivU, Mod, ModU, Lsh}
+use Rattle.ssa_ir.specs.declared.op.Op.TheVariants.{Rsh, RshU, Eq, Neq, Less, Leq, LessU, LeqU, EqB, NeqB, AndB, OrB}
+use Rattle.ssa_ir.specs.declared.op.Op.TheVariants.{Not, EqPtr, NeqPtr, IsNonNil, IsInBounds, IsSliceInBounds, SignExt}
+use Rattle.ssa_ir.specs.declared.op.Op.TheVariants.{ZeroExt, Trunc, AddPtr, OffPtr, Load, Store, NilCheck, CondSelect}
+use Rattle.ssa_ir.specs.declared.op.Op.TheVariants.{Const, ConstBool, ConstNil, SB, Addr, Phi, Copy, Arg, InitMem}
+use Rattle.ssa_ir.specs.declared.op.Op.TheVariants.{StaticLECall, SelectN, MakeResult}
+use Rattle.ssa_ir.specs.declared.op.Op.TheVariants.{Arm64MOVDconst, Arm64MOVDaddr, Arm64ADD, Arm64SUB, Arm64AND}
+use Rattle.ssa_ir.specs.declared.op.Op.TheVariants.{Arm64OR, Arm64XOR, Arm64MUL, Arm64MULW, Arm64ADDconst}
+use Rattle.ssa_ir.specs.declared.op.Op.TheVariants.{Arm64SUBconst, Arm64ANDconst, Arm64ORconst, Arm64XORconst, Arm64NEG}
+use Rattle.ssa_ir.specs.declared.op.Op.TheVariants.{Arm64MVN, Arm64DIV, Arm64UDIV, Arm64DIVW, Arm64UDIVW, Arm64MOD}
+use Rattle.ssa_ir.specs.declared.op.Op.TheVariants.{Arm64UMOD, Arm64MODW, Arm64UMODW, Arm64SLL, Arm64SRL, Arm64SRA}
+use Rattle.ssa_ir.specs.declared.op.Op.TheVariants.{Arm64SLLconst, Arm64SRLconst, Arm64SRAconst, Arm64MOVBreg}
+use Rattle.ssa_ir.specs.declared.op.Op.TheVariants.{Arm64MOVHreg, Arm64MOVWreg, Arm64MOVBUreg, Arm64MOVHUreg}
+use Rattle.ssa_ir.specs.declared.op.Op.TheVariants.{Arm64MOVWUreg, Arm64CMP, Arm64CMPW, Arm64CMPconst, Arm64CMPWconst}
+use Rattle.ssa_ir.specs.declared.op.Op.TheVariants.{Arm64TSTWconst, Arm64Equal, Arm64NotEqual, Arm64LessThan}
+use Rattle.ssa_ir.specs.declared.op.Op.TheVariants.{Arm64LessEqual, Arm64GreaterThan, Arm64GreaterEqual, Arm64LessThanU}
+use Rattle.ssa_ir.specs.declared.op.Op.TheVariants.{Arm64LessEqualU, Arm64GreaterThanU, Arm64GreaterEqualU, Arm64CSEL}
+use Rattle.ssa_ir.specs.declared.op.Op.TheVariants.{Arm64MOVBload, Arm64MOVHload, Arm64MOVWload, Arm64MOVBUload}
+use Rattle.ssa_ir.specs.declared.op.Op.TheVariants.{Arm64MOVHUload, Arm64MOVWUload, Arm64MOVDload, Arm64MOVBstore}
+use Rattle.ssa_ir.specs.declared.op.Op.TheVariants.{Arm64MOVHstore, Arm64MOVWstore, Arm64MOVDstore}
+use Rattle.ssa_ir.specs.declared.op.Op.TheVariants.{Arm64LoweredNilCheck, Arm64CALLstatic}
 
 -- one of four, by width
 abbrev pub by_width : {A : Type 0} → Width → (w8 w16 w32 w64 : A) → A
@@ -61,11 +80,14 @@ op_name IsNonNil = codes "IsNonNil"
 op_name IsInBounds = codes "IsInBounds"
 op_name IsSliceInBounds = codes "IsSliceInBounds"
 op_name (SignExt p) =
-    by_widths p (codes "SignExt8to16") (codes "SignExt8to32") (codes "SignExt8to64") (codes "SignExt16to32") (codes "SignExt16to64") (codes "SignExt32to64")
+    by_widths p (codes "SignExt8to16") (codes "SignExt8to32") (codes "SignExt8to64") (codes "SignExt16to32")
+    (codes "SignExt16to64") (codes "SignExt32to64")
 op_name (ZeroExt p) =
-    by_widths p (codes "ZeroExt8to16") (codes "ZeroExt8to32") (codes "ZeroExt8to64") (codes "ZeroExt16to32") (codes "ZeroExt16to64") (codes "ZeroExt32to64")
+    by_widths p (codes "ZeroExt8to16") (codes "ZeroExt8to32") (codes "ZeroExt8to64") (codes "ZeroExt16to32")
+    (codes "ZeroExt16to64") (codes "ZeroExt32to64")
 op_name (Trunc p) =
-    by_widths p (codes "Trunc16to8") (codes "Trunc32to8") (codes "Trunc64to8") (codes "Trunc32to16") (codes "Trunc64to16") (codes "Trunc64to32")
+    by_widths p (codes "Trunc16to8") (codes "Trunc32to8") (codes "Trunc64to8") (codes "Trunc32to16")
+    (codes "Trunc64to16") (codes "Trunc64to32")
 op_name AddPtr = codes "AddPtr"
 op_name OffPtr = codes "OffPtr"
 op_name Load = codes "Load"

@@ -1,8 +1,14 @@
 -- What each op is to a run.
 use Rattle.ssa_ir.specs.declared.op.Op.{Op}
-use Rattle.ssa_ir.specs.declared.op.Op.TheVariants.{Add, Sub, Mul, And, Or, Xor, Neg, Com, Div, DivU, Mod, ModU, Lsh, Rsh, RshU, Eq, Neq, Less, Leq, LessU, LeqU, EqB, NeqB, AndB, OrB, Not, EqPtr, NeqPtr, IsNonNil, IsInBounds, IsSliceInBounds, SignExt, ZeroExt, Trunc, AddPtr, OffPtr, Load, Store, NilCheck, CondSelect, Const, ConstBool, ConstNil, SB, Addr, Phi, Copy, Arg, InitMem, StaticLECall, SelectN, MakeResult, Arm64ADD}
+use Rattle.ssa_ir.specs.declared.op.Op.TheVariants.{Add, Sub, Mul, And, Or, Xor, Neg, Com, Div, DivU, Mod, ModU, Lsh}
+use Rattle.ssa_ir.specs.declared.op.Op.TheVariants.{Rsh, RshU, Eq, Neq, Less, Leq, LessU, LeqU, EqB, NeqB, AndB, OrB}
+use Rattle.ssa_ir.specs.declared.op.Op.TheVariants.{Not, EqPtr, NeqPtr, IsNonNil, IsInBounds, IsSliceInBounds, SignExt}
+use Rattle.ssa_ir.specs.declared.op.Op.TheVariants.{ZeroExt, Trunc, AddPtr, OffPtr, Load, Store, NilCheck, CondSelect}
+use Rattle.ssa_ir.specs.declared.op.Op.TheVariants.{Const, ConstBool, ConstNil, SB, Addr, Phi, Copy, Arg, InitMem}
+use Rattle.ssa_ir.specs.declared.op.Op.TheVariants.{StaticLECall, SelectN, MakeResult, Arm64ADD}
 use Rattle.ssa_ir.specs.declared.role.Role.{Role}
-use Rattle.ssa_ir.specs.declared.role.Role.TheVariants.{Computes, TakesParameter, TakesAddress, Loads, Stores, ChecksNil, Calls, Rests, NotBuilt}
+use Rattle.ssa_ir.specs.declared.role.Role.TheVariants.{Computes, TakesParameter, TakesAddress, Loads, Stores}
+use Rattle.ssa_ir.specs.declared.role.Role.TheVariants.{ChecksNil, Calls, Rests, NotBuilt}
 
 -- no op of the machine but its sum is built
 abbrev pub role : Op → Role

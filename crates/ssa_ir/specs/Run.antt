@@ -1,6 +1,7 @@
--- The run of an SSA function. A turn takes a counted block: its phis at once, its values in order, its control. Blocks on
--- split edges take no turn. A run that would begin one turn more than its bound goes on.
-use Rattle.std.specs.Prelude.{ℕ, zero, suc, ◌==◌, Bool, false, if◌then◌else◌, List, [], ◌∷◌, length, slice_get, unwrap_or, Option, None, Some}
+-- The run of an SSA function. A turn takes a counted block: its phis at once, its values in order, its control. Blocks
+-- on split edges take no turn. A run that would begin one turn more than its bound goes on.
+use Rattle.std.specs.Prelude.{ℕ, zero, suc, ◌==◌, Bool, false, if◌then◌else◌, List, [], ◌∷◌, length, slice_get}
+use Rattle.std.specs.Prelude.{unwrap_or, Option, None, Some}
 use Rattle.gossa_base.specs.declared.ids.ValueId.{ValueId}
 use Rattle.gossa_base.specs.declared.ids.BlockId.{BlockId}
 use Rattle.gossa_base.specs.Memory.{Memory, write_bytes, write_pieces, changed}
@@ -24,7 +25,8 @@ use Rattle.ssa_ir.specs.Inputs.{Inputs, Answer, parameter_word, symbol_word}
 use Rattle.ssa_ir.specs.Lookups.{value_named}
 use Rattle.ssa_ir.specs.Phis.{entered}
 use Rattle.ssa_ir.specs.declared.role.Role.{Role}
-use Rattle.ssa_ir.specs.declared.role.Role.TheVariants.{Computes, TakesParameter, TakesAddress, Loads, Stores, ChecksNil, Calls, Rests, NotBuilt}
+use Rattle.ssa_ir.specs.declared.role.Role.TheVariants.{Computes, TakesParameter, TakesAddress, Loads, Stores}
+use Rattle.ssa_ir.specs.declared.role.Role.TheVariants.{ChecksNil, Calls, Rests, NotBuilt}
 use Rattle.ssa_ir.specs.Roles.{role}
 use Rattle.ssa_ir.specs.Showing.{ends, call_then, words_at}
 use Rattle.ssa_ir.specs.Widths.{kept}
@@ -73,7 +75,8 @@ flags_word _ words args = 0
 -- the word that a value computes
 abbrev pub computed : Value → (ℕ → ℕ) → ℕ
 computed v words =
-    eval v.op v.aux (operand words v.args 0) (operand words v.args 1) (operand words v.args 2) (flags_word v.op words v.args)
+    eval v.op v.aux (operand words v.args 0) (operand words v.args 1) (operand words v.args 2)
+    (flags_word v.op words v.args)
 
 -- the word of a value's first argument: the pointer of what loads, stores or checks
 abbrev pub pointer : Value → (ℕ → ℕ) → ℕ
@@ -84,7 +87,8 @@ abbrev pub loaded_word : Value → State → ℕ
 loaded_word v s = loaded v.op v.ty s.memory (address v.aux (pointer v s.words))
 
 abbrev pub stored_memory : Value → State → Memory
-stored_memory v s = write_bytes s.memory (address v.aux (pointer v s.words)) (stored v.op v.elem (operand s.words v.args 1))
+stored_memory v s =
+    write_bytes s.memory (address v.aux (pointer v s.words)) (stored v.op v.elem (operand s.words v.args 1))
 
 -- what a call shows
 abbrev pub shown_of : Form → Value → State → CallShown
@@ -109,12 +113,14 @@ takes_answer form block v s (a ∷ answers) go = go (with_answer form block v s 
 -- a value of this role, among all values of its block, and then the rest of the run
 abbrev pub run_role : Form → Inputs → (block : List Value) → Value → Role → State → (State → Shown) → Shown
 run_role form inputs block v Computes s go = go (with_word s v.id.0 (computed v s.words))
-run_role form inputs block v TakesParameter s go = go (with_word s v.id.0 (kept form.whole v.ty (parameter_word inputs v.aux)))
+run_role form inputs block v TakesParameter s go =
+    go (with_word s v.id.0 (kept form.whole v.ty (parameter_word inputs v.aux)))
 run_role form inputs block v TakesAddress s go = go (with_word s v.id.0 (symbol_word inputs (unwrap_or v.sym [])))
 run_role form inputs block v Loads s go = go (with_word s v.id.0 (loaded_word v s))
 run_role form inputs block v Stores s go = go (record s { memory = stored_memory v s })
 run_role form inputs block v ChecksNil s go =
-    if pointer v s.words == 0 then ends (Trapped (changed s.since s.memory)) else go (with_word s v.id.0 (pointer v s.words))
+    if pointer v s.words == 0 then ends (Trapped (changed s.since s.memory)) else go
+    (with_word s v.id.0 (pointer v s.words))
 run_role form inputs block v Calls s go = call_then (shown_of form v s) (takes_answer form block v s s.answers go)
 run_role form inputs block v Rests s go = go s
 run_role form inputs block v NotBuilt s go = ends Stuck
@@ -159,7 +165,8 @@ abbrev pub run_control : Form → Func → (Block → Option ℕ → State → S
 run_control form f go b Plain s = leaves f go b 0 s
 run_control form f go b If s = leaves f go b (if is_set (control_word s.words b.control) then 0 else 1) s
 run_control form f go b Ret s =
-    ends (Returned (words_at f.sig.results (result_words s.words (controlling (form.values b) b.control))) (changed s.since s.memory))
+    ends (Returned (words_at f.sig.results (result_words s.words (controlling (form.values b) b.control)))
+    (changed s.since s.memory))
 run_control form f go b Exit s = ends (Exited (changed s.since s.memory))
 run_control form f go b (Cond c) s = ends Stuck
 run_control form f go b Bit s = leaves f go b (if is_set (control_word s.words b.control) then 0 else 1) s

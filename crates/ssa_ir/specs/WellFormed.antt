@@ -1,10 +1,12 @@
--- What a well-formed unit is: its counts keep the limits, its names have their form, its numbers and names mean one thing
--- each and name what is there, and each value and block has what its op or kind asks.
-use Rattle.std.specs.Prelude.{◌≡◌, ◌≢◌, ℕ, ◌≤◌, ◌<◌, ℤ, pos, Bool, true, false, ◌⊎◌, List, [], ◌∷◌, length, map, Option, None, IsSome, IfSome}
+-- What a well-formed unit is: its counts keep the limits, its names have their form, its numbers and names mean one
+-- thing each and name what is there, and each value and block has what its op or kind asks.
+use Rattle.std.specs.Prelude.{◌≡◌, ◌≢◌, ℕ, ◌≤◌, ◌<◌, ℤ, pos, Bool, true, false, ◌⊎◌, List, [], ◌∷◌, length, map, Option}
+use Rattle.std.specs.Prelude.{None, IsSome, IfSome}
 use Rattle.std.specs.List.{All, AllPairs}
 use Rattle.gossa_base.specs.declared.ids.ValueId.{ValueId}
 use Rattle.gossa_base.specs.declared.ids.BlockId.{BlockId}
 use Rattle.ssa_ir.specs.declared.op.Op.{Op}
+use Rattle.ssa_ir.specs.declared.limits.TheConstants.{MAX_NUMBER}
 use Rattle.ssa_ir.specs.declared.op.Op.TheVariants.{StaticLECall, MakeResult}
 use Rattle.ssa_ir.specs.declared.op.AuxRule.{AuxRule}
 use Rattle.ssa_ir.specs.declared.op.AuxRule.TheVariants.{Nothing, Int, Bool as TrueOrFalse, Sym, Elem, Dropped}
@@ -27,7 +29,7 @@ use Rattle.ssa_ir.specs.Ops.{row_of, is_machine}
 -- a number that a text can give to a value or a block
 pub record IsNumber (n : ℕ) : Type 0 where
   pub least : 1 ≤ n
-  pub greatest : n ≤ 1000000
+  pub greatest : n ≤ MAX_NUMBER
 
 -- no two are the same
 abbrev pub Differ : {X : Type 0} → List X → Type 0
@@ -45,7 +47,8 @@ makes_tuple StaticLECall = true
 makes_tuple MakeResult = true
 makes_tuple _ = false
 
--- a text can write this type on a value of this op: <mem> means one thing on each op, and flags and nothing have no name
+-- a text can write this type on a value of this op: <mem> means one thing on each op, and flags and nothing have no
+-- name
 abbrev pub CanBeWritten : Op → Ty → Type 0
 CanBeWritten op (One t) = Unit {0}
 CanBeWritten op Mem = makes_tuple op ≡ false

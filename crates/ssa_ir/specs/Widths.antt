@@ -62,8 +62,8 @@ scalar_bytes t = scalar_bits t / 8
 abbrev pub type_bytes : Ty → ℕ
 type_bytes ty = type_bits ty / 8
 
--- a word that comes from outside, as a function keeps it: whole, or at the width of its type. A memory, a tuple, flags and
--- nothing are no words, and keep 0
+-- a word that comes from outside, as a function keeps it: whole, or at the width of its type. A memory, a tuple, flags
+-- and nothing are no words, and keep 0
 abbrev pub kept : (whole : Truth) → Ty → ℕ → ℕ
 kept true (One t) w = w
 kept false (One t) w = low (scalar_bits t) w

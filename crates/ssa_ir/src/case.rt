@@ -81,8 +81,8 @@ pub enum End {
     NoReply,
     /// At the bound.
     Going,
-    /// In code that goes on nowhere, or at an op of the machine, a branch or a listing's call whose meaning isn't defined
-    /// yet.
+    /// In code that goes on nowhere, or at an op of the machine, a branch or a listing's call whose meaning isn't
+    /// defined yet.
     Stuck,
 }
 

@@ -10,22 +10,26 @@
 //! b1:  ...  Ret v5              block 1, kind Ret, control v5
 //! ```
 //!
-//! [`op_row`] is the table of ops: how many arguments each takes, what its brackets or braces hold, and whether it reads
-//! or makes a memory. `specs/WellFormed.antt` says what a well-formed unit is.
+//! [`op_row`] is the table of ops: how many arguments each takes, what its brackets or braces hold, and whether it
+//! reads or makes a memory. `specs/WellFormed.antt` says what a well-formed unit is.
 //!
 //! What a function shows in a case is defined in `specs/Run.antt`, and what each op is to a run in `specs/Roles.antt`
 //! ([`role_of`]).
 //!
-//! Known limits: a run takes every generic op, and of the machine's ops only the sum: one that comes to another ends stuck.
+//! Known limits: a run takes every generic op, and of the machine's ops only the sum: one that comes to another ends
+//! stuck.
 #![tactic(auto)]
 
 pub mod abi;
 pub mod args;
 pub mod case;
+pub mod classes;
 pub mod func;
 pub mod laws;
+pub mod limits;
 pub mod lookups;
 pub mod op;
+pub mod op_kinds;
 pub mod op_names;
 mod op_places;
 mod op_search;
@@ -39,8 +43,10 @@ pub use case::{
     CallShown, CallsShown, Case, Cases, Changed, End, Junk, Piece, Pieces, Replies, Reply, Shown,
     SymWords, Words,
 };
+pub use classes::{Class, class_of, class_of_scalar, is_scalar, same_class};
 pub use func::{Block, BlockIds, Blocks, Func, Funcs, Kind, SsaUnit, Value, Values};
 pub use op::{Arity, AuxRule, CondCode, Op, OpRow, Width, WidthPair, op_row};
+pub use op_kinds::same_memory;
 pub use role::{Role, role_of};
 pub use texts::print_sigs;
 pub use types::{Scalar, Scalars, Sig, Sigs, Ty};

@@ -7,7 +7,8 @@ use Rattle.ssa_lines.specs.declared.numbers.Number.{Number}
 use Rattle.ssa_lines.specs.declared.numbers.Number.TheVariants.{Fits as NumberFits, TooLarge as NumberTooLarge}
 use Rattle.ssa_lines.specs.declared.forms.Spelled.{Spelled}
 use Rattle.ssa_lines.specs.declared.forms.Spelled.TheVariants.{Fits, TooLarge}
-use Rattle.ssa_lines.specs.NumberWords.{number_word, number_or_end, numbers_ahead, fit, before_numbers, fitting, spelled, vid}
+use Rattle.ssa_lines.specs.NumberWords.{number_word, number_or_end, numbers_ahead, fit, before_numbers, fitting}
+use Rattle.ssa_lines.specs.NumberWords.{spelled, vid}
 use Rattle.ssa_lines.specs.ValueForms.{is_end, all_args, with_arg}
 
 abbrev pub arg_or_end : Spelled (List ValueId) → Option Number → List ℕ → List (List ℕ)
@@ -44,13 +45,15 @@ from_by_number : (args : Spelled (List ValueId)) (n : Option Number) (word : Lis
     → ((more : Spelled (List ValueId)) → args_from more words ≡ end_with more (numbers_ahead 118 words))
     → arg_or_end args n word words (λ more. args_from more words)
     ≡ end_with args (number_or_end n word words (numbers_ahead 118 words))
-from_by_number args None word words later = ap (λ a. cond (is_end (word ∷ words)) (Some a) None) (sym (joined_none args))
+from_by_number args None word words later =
+    ap (λ a. cond (is_end (word ∷ words)) (Some a) None) (sym (joined_none args))
 from_by_number args (Some n) word words later =
     let ahead = numbers_ahead 118 words in
     later (with_arg args n)
     ∙ ap (λ a. cond (is_end ahead.1) (Some a) None) (joined_more args n (fitting ahead.0))
 
-from_is_end : (args : Spelled (List ValueId)) (words : List (List ℕ)) → args_from args words ≡ end_with args (numbers_ahead 118 words)
+from_is_end : (args : Spelled (List ValueId)) (words : List (List ℕ))
+    → args_from args words ≡ end_with args (numbers_ahead 118 words)
 from_is_end args [] = ap Some (sym (joined_none args))
 from_is_end args (word ∷ words) = from_by_number args (number_word 118 word) word words (λ more. from_is_end more words)
 

@@ -4,6 +4,7 @@ use Rattle.std.specs.Int.{w64}
 use Rattle.std.specs.List.{All}
 use Rattle.gossa_base.specs.declared.ids.ValueId.{ValueId}
 use Rattle.gossa_base.specs.declared.ids.BlockId.{BlockId}
+use Rattle.ssa_ir.specs.declared.limits.TheConstants.{MAX_LINE_BYTES}
 use Rattle.ssa_ir.specs.declared.func.Value.{Value}
 use Rattle.ssa_ir.specs.Names.{IsName}
 use Rattle.ssa_ir.specs.WellFormed.{IsNumber, WellFormedValue, HasItsSuccessors, HasItsControl}
@@ -13,9 +14,12 @@ use Rattle.ssa_lines.specs.Words.{words_of}
 use Rattle.ssa_lines.specs.declared.forms.Spelled.TheVariants.{Fits, TooLarge as NotSpelled}
 use Rattle.ssa_lines.specs.declared.forms.BlockLine.{BlockLine}
 use Rattle.ssa_lines.specs.declared.forms.ControlLine.{ControlLine}
-use Rattle.ssa_lines.specs.declared.forms.ValueLine.TheVariants.{Known, UnknownOp as NoSuchOp, TooLarge as ValueTooLarge}
+use Rattle.ssa_lines.specs.declared.forms.ValueLine.TheVariants.{Known, UnknownOp as NoSuchOp}
+use Rattle.ssa_lines.specs.declared.forms.ValueLine.TheVariants.{TooLarge as ValueTooLarge}
 use Rattle.ssa_lines.specs.declared.forms.Form.{Form}
-use Rattle.ssa_lines.specs.declared.forms.Form.TheVariants.{Blank, Case, Sig as SigForm, Func as FuncForm, Block as BlockForm, Value as ValueForm, Control as ControlForm, Bad}
+use Rattle.ssa_lines.specs.declared.forms.Form.TheVariants.{Blank, Case, Sig as SigForm, Func as FuncForm}
+use Rattle.ssa_lines.specs.declared.forms.Form.TheVariants.{Block as BlockForm, Value as ValueForm}
+use Rattle.ssa_lines.specs.declared.forms.Form.TheVariants.{Control as ControlForm, Bad}
 use Rattle.ssa_lines.proofs.LineLemmas.{HasNoNewline}
 
 -- a number that a text can give to a value
@@ -62,5 +66,5 @@ FormFacts Bad = Unit {0}
 pub record Spells (line : List ℕ) (form : Form) : Type 0 where
   pub form_is : form_of (words_of line) ≡ form
   pub allowed : is_allowed line ≡ true
-  pub short : length line ≤ 4096
+  pub short : length line ≤ MAX_LINE_BYTES
   pub one_line : HasNoNewline line

@@ -1,5 +1,6 @@
 -- Signed integers in text: their decimals are words, and are read as those integers.
-use Rattle.std.proofs.Common.{◌≡◌, ℕ, ◌^◌, ◌<◌, ◌≤◌, nat_lt, nat_eq, Bool, true, false, ◌&&◌, cond, List, [], ◌∷◌, drop, codes, decimal, Option, Some, refl, ap, ◌∙◌, arith}
+use Rattle.std.proofs.Common.{◌≡◌, ℕ, ◌^◌, ◌<◌, ◌≤◌, nat_lt, nat_eq, Bool, true, false, ◌&&◌, cond, List, [], ◌∷◌, drop}
+use Rattle.std.proofs.Common.{codes, decimal, Option, Some, refl, ap, ◌∙◌, arith}
 use Rattle.std.specs.Prelude.{ℤ, suc, pos, negsuc, neg_ℤ, ◌-ℤ◌, ◌-◌, FitsSigned}
 use Rattle.std.specs.Fmt.{signed_decimal}
 use Rattle.std.specs.Int.{w64}

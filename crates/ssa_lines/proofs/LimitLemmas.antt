@@ -1,5 +1,6 @@
 -- What is known where no limit is passed.
-use Rattle.std.proofs.Common.{◌≡◌, ℕ, ◌<◌, ◌≤◌, Bool, true, false, nat_lt, nat_le, Option, None, Some, if◌then◌else◌, refl}
+use Rattle.std.proofs.Common.{◌≡◌, ℕ, ◌<◌, ◌≤◌, Bool, true, false, nat_lt, nat_le, Option, None, Some, if◌then◌else◌}
+use Rattle.std.proofs.Common.{refl}
 use Rattle.std.specs.Option.{option_or}
 use Rattle.std.proofs.lemmas.Bool.{ltb-false, leb-false}
 use Rattle.ssa_lines.specs.Limits.{over, full}

@@ -1,5 +1,6 @@
 -- The bytes and the words that a printed line is made of, and what such a line is: allowed, and without a line break.
-use Rattle.std.proofs.Common.{◌≡◌, ◌==◌, ℕ, ◌+◌, ◌*◌, ◌<◌, ◌≤◌, true, false, ◌&&◌, cond, List, [], ◌∷◌, ◌++◌, length, map, codes, All, refl, sym, ap, ◌∙◌, arith, true≢false, mul-suc}
+use Rattle.std.proofs.Common.{◌≡◌, ◌==◌, ℕ, ◌+◌, ◌*◌, ◌<◌, ◌≤◌, true, false, ◌&&◌, cond, List, [], ◌∷◌, ◌++◌, length}
+use Rattle.std.proofs.Common.{map, codes, All, refl, sym, ap, ◌∙◌, arith, true≢false, mul-suc}
 use Rattle.std.specs.List.{list_all}
 use Rattle.std.proofs.lemmas.List.{length-append}
 use Rattle.std.proofs.lemmas.Bool.{ne_eqb}
@@ -11,7 +12,8 @@ use Rattle.ssa_ir.specs.Names.{is_name_byte}
 use Rattle.ssa_lines.specs.Lines.{Second, is_space, is_newline, is_plain_byte, allowed_from, is_allowed}
 use Rattle.ssa_lines.proofs.LineLemmas.{HasNoNewline}
 use Rattle.ssa_lines.specs.Words.{words_of, is_word_byte}
-use Rattle.ssa_lines.proofs.WordLemmas.{HasNoSpace, EndsWord, HasNoSpace-from_test, space_in_front, only_word, word_and_space, word_in_front}
+use Rattle.ssa_lines.proofs.WordLemmas.{HasNoSpace, EndsWord, HasNoSpace-from_test, space_in_front, only_word}
+use Rattle.ssa_lines.proofs.WordLemmas.{word_and_space, word_in_front}
 
 -- all bytes of a line may stand by themselves
 abbrev pub AllPlain : List ℕ → Type 0

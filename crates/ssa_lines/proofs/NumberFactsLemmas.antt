@@ -1,10 +1,12 @@
 -- What is known of the numbers and the lists of numbers that words spell.
-use Rattle.std.proofs.Common.{◌≡◌, ℕ, suc, Bool, true, false, nat_le, ◌&&◌, List, [], ◌∷◌, length, map, All, Option, None, Some, IfSome, if◌then◌else◌, refl, ap, ◌∙◌}
+use Rattle.std.proofs.Common.{◌≡◌, ℕ, suc, Bool, true, false, nat_le, ◌&&◌, List, [], ◌∷◌, length, map, All, Option}
+use Rattle.std.proofs.Common.{None, Some, IfSome, if◌then◌else◌, refl, ap, ◌∙◌}
 use Rattle.std.specs.Option.{option_map}
 use Rattle.std.proofs.lemmas.Bool.{and_parts, leb-true}
 use Rattle.std.proofs.lemmas.List.{length-map}
 use Rattle.std.proofs.lemmas.List.Elements.{All-nil, All-cons, All-head, All-tail}
 use Rattle.gossa_base.specs.declared.ids.BlockId.{BlockId}
+use Rattle.ssa_ir.specs.declared.limits.TheConstants.{MAX_NUMBER}
 use Rattle.ssa_ir.specs.WellFormed.{IsNumber}
 use Rattle.ssa_lines.specs.declared.numbers.Number.{Number}
 use Rattle.ssa_lines.specs.declared.numbers.Number.TheVariants.{Fits as NumberFits, TooLarge as NumberTooLarge}
@@ -12,7 +14,8 @@ use Rattle.ssa_lines.specs.declared.forms.Spelled.{Spelled}
 use Rattle.ssa_lines.specs.declared.forms.Spelled.TheVariants.{Fits, TooLarge}
 use Rattle.ssa_lines.specs.Forms.{blocks_of}
 use Rattle.ssa_lines.specs.Numbers.{number_behind, in_limits}
-use Rattle.ssa_lines.specs.NumberWords.{vid, bid, number_word, number_or_end, numbers_ahead, fit, before_numbers, fitting, spelled}
+use Rattle.ssa_lines.specs.NumberWords.{vid, bid, number_word, number_or_end, numbers_ahead, fit, before_numbers}
+use Rattle.ssa_lines.specs.NumberWords.{fitting, spelled}
 use Rattle.ssa_lines.proofs.FormFacts.{IsValueNumber, IsTextBlock}
 
 -- a number that is in its range
@@ -25,16 +28,16 @@ abbrev pub IfFits : {X : Type 0} → Spelled X → (X → Type 0) → Type 0
 IfFits (Fits x) P = P x
 IfFits TooLarge P = Unit {0}
 
-in_limits_range : (n : ℕ) (b : Bool) → (nat_le 1 n && nat_le n 1000000) ≡ b
+in_limits_range : (n : ℕ) (b : Bool) → (nat_le 1 n && nat_le n MAX_NUMBER) ≡ b
     → InRange (if b then NumberFits n else NumberTooLarge)
 in_limits_range n true h =
-    let parts = and_parts (nat_le 1 n) (nat_le n 1000000) h in
-    record { least = leb-true 1 n parts.0; greatest = leb-true n 1000000 parts.1 }
+    let parts = and_parts (nat_le 1 n) (nat_le n MAX_NUMBER) h in
+    record { least = leb-true 1 n parts.0; greatest = leb-true n MAX_NUMBER parts.1 }
 in_limits_range n false h = tt
 
 found_in_range : (o : Option ℕ) → IfSome (option_map in_limits o) InRange
 found_in_range None = tt
-found_in_range (Some n) = in_limits_range n (nat_le 1 n && nat_le n 1000000) refl
+found_in_range (Some n) = in_limits_range n (nat_le 1 n && nat_le n MAX_NUMBER) refl
 
 -- the number of a word is in its range, or marked as too large
 pub word_in_range : (letter : ℕ) (word : List ℕ) → IfSome (number_word letter word) InRange

@@ -1,5 +1,7 @@
 -- The texts of numbers read back: digits, the names of values and blocks, and lists of them.
-use Rattle.std.proofs.Common.{◌≡◌, ℕ, ◌+◌, ◌-◌, ◌*◌, ◌^◌, ◌<◌, ◌≤◌, false, true, cond, nat_le, List, [], ◌∷◌, length, map, codes, decimal, Option, None, Some, option_map, All, refl, sym, ap, subst, ◌∙◌, arith}
+use Rattle.std.proofs.Common.{◌≡◌, ℕ, ◌+◌, ◌-◌, ◌*◌, ◌^◌, ◌<◌, ◌≤◌, false, true, cond, nat_le, List, [], ◌∷◌, length}
+use Rattle.std.proofs.Common.{map, codes, decimal, Option, None, Some, option_map, All, refl, sym, ap, subst, ◌∙◌}
+use Rattle.std.proofs.Common.{arith}
 use Rattle.std.specs.Char.{digit_value as value_in_std}
 use Rattle.std.specs.List.{list_all}
 use Rattle.std.specs.Str.Parse.{AllDigits, digits_value_after}
@@ -12,10 +14,12 @@ use Rattle.std.proofs.lemmas.Str.Parse.{digit_from_value}
 use Rattle.gossa_base.specs.declared.ids.ValueId.{ValueId}
 use Rattle.gossa_base.specs.declared.ids.BlockId.{BlockId}
 use Rattle.gossa_base.specs.Texts.{led, value_text, block_text}
+use Rattle.ssa_ir.specs.declared.limits.TheConstants.{MAX_NUMBER}
 use Rattle.ssa_ir.specs.Names.{is_name_byte}
 use Rattle.ssa_ir.specs.WellFormed.{IsNumber}
 use Rattle.ssa_lines.specs.Forms.{blocks_of}
-use Rattle.ssa_lines.specs.NumberWords.{vid, bid, number_word, number_or_end, numbers_ahead, before_numbers, fitting, spelled}
+use Rattle.ssa_lines.specs.NumberWords.{vid, bid, number_word, number_or_end, numbers_ahead, before_numbers, fitting}
+use Rattle.ssa_lines.specs.NumberWords.{spelled}
 use Rattle.ssa_lines.specs.Numbers.{digit_in, with_digit, digits_behind, number_in, in_limits}
 use Rattle.ssa_lines.specs.ValueForms.{is_end, all_args}
 use Rattle.ssa_lines.specs.Words.{words_of}
@@ -24,7 +28,8 @@ use Rattle.ssa_lines.specs.declared.numbers.Number.TheVariants.{Fits, TooLarge}
 use Rattle.ssa_lines.specs.declared.forms.Spelled.TheVariants.{Fits as SpelledFits}
 use Rattle.ssa_lines.proofs.NumberLemmas.{begun}
 use Rattle.ssa_lines.proofs.FormFacts.{IsValueNumber, IsTextBlock}
-use Rattle.ssa_lines.proofs.LineBytes.{AllPlain, IsPlainWord, plain_word_from_name, words_of-led, AllPlain-led, length-led}
+use Rattle.ssa_lines.proofs.LineBytes.{AllPlain, IsPlainWord, plain_word_from_name, words_of-led, AllPlain-led}
+use Rattle.ssa_lines.proofs.LineBytes.{length-led}
 
 -- a decimal digit counts what it is above 0
 digit_counts : (b : ℕ) → 48 ≤ b → b ≤ 57 → digit_in 10 b ≡ Some (b - 48)
@@ -62,7 +67,7 @@ pub some_decimal : (n : ℕ) → n < 2 ^ 64 → 0 < length (decimal n)
 some_decimal n small = (decimal_is_IsNumeral n small).0.0
 
 -- the number of a value or block has seven digits at most
-pub short_decimal : (n : ℕ) → n ≤ 1000000 → length (decimal n) ≤ 7
+pub short_decimal : (n : ℕ) → n ≤ MAX_NUMBER → length (decimal n) ≤ 7
 short_decimal n small = length-decimal-le 7 n (omega arith) (omega arith) (omega arith)
 
 -- a letter before a number
@@ -90,7 +95,7 @@ text_block_is_word b h =
 number_in_limits : (n : ℕ) → IsNumber n → in_limits n ≡ Fits n
 number_in_limits n h =
     ap (λ t. cond t (Fits n) TooLarge)
-    (and_from (nat_le 1 n) (nat_le n 1000000) (le-leb 1 n h.least) (le-leb n 1000000 h.greatest))
+    (and_from (nat_le 1 n) (nat_le n MAX_NUMBER) (le-leb 1 n h.least) (le-leb n MAX_NUMBER h.greatest))
 
 read_number : (n : ℕ) → IsNumber n → option_map in_limits (number_in 10 (decimal n)) ≡ Some (Fits n)
 read_number n h =

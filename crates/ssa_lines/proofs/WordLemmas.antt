@@ -1,5 +1,8 @@
 -- The words of a line that is put together, and of a line that is cut.
-use Rattle.std.proofs.Common.{◌≡◌, ◌==◌, ℕ, ◌+◌, ◌<◌, ◌≤◌, Bool, true, false, not, cond, List, [], ◌∷◌, ◌++◌, length, take, drop, get_or, position, take_while, filter, unwrap_or, option_map, Option, None, Some, All, refl, sym, ap, ◌∙◌, subst, arith, append-nil, ltb, ⊎_elim, take-append-drop, length-drop, get_or-take}
+use Rattle.std.proofs.Common.{◌≡◌, ◌==◌, ℕ, ◌+◌, ◌<◌, ◌≤◌, Bool, true, false, not, cond, List, [], ◌∷◌, ◌++◌, length}
+use Rattle.std.proofs.Common.{take, drop, get_or, position, take_while, filter, unwrap_or, option_map, Option, None}
+use Rattle.std.proofs.Common.{Some, All, refl, sym, ap, ◌∙◌, subst, arith, append-nil, ltb, ⊎_elim, take-append-drop}
+use Rattle.std.proofs.Common.{length-drop, get_or-take}
 use Rattle.std.specs.Bool.{⊤}
 use Rattle.std.specs.List.{prefix_len, position_or_len, list_all}
 use Rattle.std.proofs.lemmas.Bool.{not-true, not-false, cases_lt, cond_both, ltb-false, ne_eqb, eq-eqb}
@@ -7,7 +10,8 @@ use Rattle.std.proofs.lemmas.List.{drop_more, drop_all, nil_from_length}
 use Rattle.std.proofs.lemmas.List.Elements.{All-head, All-tail, All-weaker, All-from_get_or}
 use Rattle.std.proofs.lemmas.List.Folds.{length-prefix_len}
 use Rattle.std.proofs.lemmas.List.Splits.{slice_split-cons_yes, slice_split_none, slice_split_at}
-use Rattle.std.proofs.lemmas.List.Sums.{AllPass-from_list_all, prefix_len-le-length, prefix_len_passes, prefix_len_stops}
+use Rattle.std.proofs.lemmas.List.Sums.{AllPass-from_list_all, prefix_len-le-length, prefix_len_passes}
+use Rattle.std.proofs.lemmas.List.Sums.{prefix_len_stops}
 use Rattle.ssa_lines.specs.Lines.{is_space}
 use Rattle.ssa_lines.specs.Words.{words_of, has_bytes, is_word_byte, without_last}
 

@@ -1,7 +1,9 @@
 -- What a printed line is made of: words and texts whose bytes are known, and names.
-use Rattle.std.proofs.Common.{◌≡◌, ◌==◌, ℕ, ◌+◌, ◌<◌, ◌≤◌, nat_le, Bool, true, ◌&&◌, ◌||◌, cond, List, [], ◌∷◌, ◌++◌, length-append, length, None, Some, refl, ap, ◌∙◌, arith}
+use Rattle.std.proofs.Common.{◌≡◌, ◌==◌, ℕ, ◌+◌, ◌<◌, ◌≤◌, nat_le, Bool, true, ◌&&◌, ◌||◌, cond, List, [], ◌∷◌, ◌++◌}
+use Rattle.std.proofs.Common.{length-append, length, None, Some, refl, ap, ◌∙◌, arith}
 use Rattle.std.specs.List.{list_all}
 use Rattle.std.proofs.lemmas.Bool.{and_parts, and_from, eq-eqb, le-leb, leb-true}
+use Rattle.ssa_ir.specs.declared.limits.TheConstants.{MAX_LINE_BYTES}
 use Rattle.ssa_ir.specs.Names.{IsName, has_name_bytes, is_name_start, is_name_byte, is_digit}
 use Rattle.ssa_lines.specs.declared.forms.Form.{Form}
 use Rattle.ssa_lines.specs.Forms.{form_of}
@@ -12,7 +14,9 @@ use Rattle.ssa_lines.specs.ValueForms.{between}
 use Rattle.ssa_lines.specs.Words.{words_of, has_bytes, is_word_byte, without_first}
 use Rattle.ssa_lines.proofs.WordLemmas.{without_last_of}
 use Rattle.ssa_lines.proofs.FormFacts.{Spells}
-use Rattle.ssa_lines.proofs.LineBytes.{AllPlain, AllPlain-append, AllPlain-from_test, allowed_if_plain, no_newline_if_plain, IsPlainWord, plain_word_append, plain_word_from_tests, plain_word_from_name}
+use Rattle.ssa_lines.proofs.LineBytes.{AllPlain, AllPlain-append, AllPlain-from_test, allowed_if_plain}
+use Rattle.ssa_lines.proofs.LineBytes.{no_newline_if_plain, IsPlainWord, plain_word_append, plain_word_from_tests}
+use Rattle.ssa_lines.proofs.LineBytes.{plain_word_from_name}
 
 -- a word whose bytes are known
 abbrev pub is_short_word : ℕ → List ℕ → Bool
@@ -94,7 +98,7 @@ pub is_name-name : (name : List ℕ) → IsName name → is_name name ≡ true
 is_name-name name h = and_from (has_name_bytes name) (nat_le (length name) 100) h.form (le-leb (length name) 100 h.few)
 
 -- a line of plain bytes spells the form of its words
-pub spells_text : (line : List ℕ) (form : Form) → form_of (words_of line) ≡ form → IsPlainText 4096 line →
+pub spells_text : (line : List ℕ) (form : Form) → form_of (words_of line) ≡ form → IsPlainText MAX_LINE_BYTES line →
     Spells line form
 spells_text line form e h = record {
   form_is = e;

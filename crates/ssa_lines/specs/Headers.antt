@@ -1,5 +1,6 @@
 -- The signatures that the words behind `sig` and `func` spell.
-use Rattle.std.specs.Prelude.{ℕ, ◌==◌, nat_le, Bool, ◌&&◌, if◌then◌else◌, List, [], ◌∷◌, codes, length, Option, None, Some}
+use Rattle.std.specs.Prelude.{ℕ, ◌==◌, nat_le, Bool, ◌&&◌, if◌then◌else◌, List, [], ◌∷◌, codes, length, Option, None}
+use Rattle.std.specs.Prelude.{Some}
 use Rattle.std.specs.List.{before_first, after_first, list_any}
 use Rattle.ssa_ir.specs.declared.types.Scalar.{Scalar}
 use Rattle.ssa_ir.specs.declared.types.Sig.{Sig}
@@ -20,7 +21,8 @@ type_before last word = do
   front ← without_last last word
   scalar_of front
 
-abbrev pub last_or_more : Option Scalar → Option Scalar → List (List ℕ) → Option (List Scalar × List (List ℕ)) → Option (List Scalar × List (List ℕ))
+abbrev pub last_or_more : Option Scalar → Option Scalar → List (List ℕ) → Option (List Scalar × List (List ℕ))
+    → Option (List Scalar × List (List ℕ))
 last_or_more (Some t) more words rest = Some (t ∷ [], words)
 last_or_more None None words rest = None
 last_or_more None (Some t) words None = None

@@ -35,7 +35,8 @@ abbrev pub allowed_from : Within → List ℕ → Bool
 allowed_from Outside [] = true
 allowed_from Second [] = false
 allowed_from Third [] = false
-allowed_from Outside (b ∷ bytes) = if b == 226 then allowed_from Second bytes else (is_plain_byte b && allowed_from Outside bytes)
+allowed_from Outside (b ∷ bytes) =
+    if b == 226 then allowed_from Second bytes else (is_plain_byte b && allowed_from Outside bytes)
 allowed_from Second (b ∷ bytes) = b == 134 && allowed_from Third bytes
 allowed_from Third (b ∷ bytes) = (b == 144 || b == 146) && allowed_from Outside bytes
 

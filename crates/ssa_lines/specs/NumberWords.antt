@@ -19,7 +19,8 @@ bid n = record { split = false; n = n }
 abbrev pub number_word : ℕ → List ℕ → Option Number
 number_word letter word = option_map in_limits (number_behind letter word)
 
-abbrev pub number_or_end : Option Number → List ℕ → List (List ℕ) → List Number × List (List ℕ) → List Number × List (List ℕ)
+abbrev pub number_or_end : Option Number → List ℕ → List (List ℕ) → List Number × List (List ℕ)
+    → List Number × List (List ℕ)
 number_or_end None word words ahead = ([], word ∷ words)
 number_or_end (Some n) word words (numbers, behind) = (n ∷ numbers, behind)
 

@@ -1,5 +1,6 @@
 -- Numbers in words: integers, and the numbers of values and blocks.
-use Rattle.std.specs.Prelude.{ℕ, ◌+◌, ◌-◌, ◌*◌, ◌^◌, ◌==◌, ℤ, pos, neg_ℤ, int_lt, nat_lt, nat_le, nat_eq, Bool, not, ◌&&◌, if◌then◌else◌, List, [], ◌∷◌, codes, drop, Option, None, Some}
+use Rattle.std.specs.Prelude.{ℕ, ◌+◌, ◌-◌, ◌*◌, ◌^◌, ◌==◌, ℤ, pos, neg_ℤ, int_lt, nat_lt, nat_le, nat_eq, Bool, not}
+use Rattle.std.specs.Prelude.{◌&&◌, if◌then◌else◌, List, [], ◌∷◌, codes, drop, Option, None, Some}
 use Rattle.std.specs.List.{starts_with}
 use Rattle.std.specs.Option.{option_map}
 use Rattle.gossa_base.specs.Words.{word_of}
@@ -7,6 +8,7 @@ use Rattle.ssa_lines.specs.declared.numbers.Integer.{Integer}
 use Rattle.ssa_lines.specs.declared.numbers.Integer.TheVariants.{Word, TooLarge as IntegerTooLarge}
 use Rattle.ssa_lines.specs.declared.numbers.Number.{Number}
 use Rattle.ssa_lines.specs.declared.numbers.Number.TheVariants.{Fits, TooLarge as NumberTooLarge}
+use Rattle.ssa_ir.specs.declared.limits.TheConstants.{MAX_NUMBER}
 
 -- what a hexadecimal digit counts, in either case
 abbrev pub digit_value : ℕ → Option ℕ
@@ -59,4 +61,4 @@ number_behind letter (b ∷ bytes) = if b == letter then number_in 10 bytes else
 
 -- values and blocks are numbered from 1 to 1,000,000
 abbrev pub in_limits : ℕ → Number
-in_limits n = if nat_le 1 n && nat_le n 1000000 then Fits n else NumberTooLarge
+in_limits n = if nat_le 1 n && nat_le n MAX_NUMBER then Fits n else NumberTooLarge

@@ -1,9 +1,11 @@
 -- The types that words spell.
-use Rattle.std.specs.Prelude.{ℕ, ◌==◌, Bool, false, ◌&&◌, ◌||◌, if◌then◌else◌, List, [], ◌∷◌, codes, Option, None, Some, find}
+use Rattle.std.specs.Prelude.{ℕ, ◌==◌, Bool, false, ◌&&◌, ◌||◌, if◌then◌else◌, List, [], ◌∷◌, codes, Option, None, Some}
+use Rattle.std.specs.Prelude.{find}
 use Rattle.std.specs.List.{list_all, slice_split}
 use Rattle.std.specs.Option.{option_map}
 use Rattle.ssa_ir.specs.declared.types.Scalar.{Scalar}
-use Rattle.ssa_ir.specs.declared.types.Scalar.TheVariants.{I8, I16, I32, I64, U8, U16, U32, U64, Uintptr, Bool as TrueOrFalse, Ptr}
+use Rattle.ssa_ir.specs.declared.types.Scalar.TheVariants.{I8, I16, I32, I64, U8, U16, U32, U64, Uintptr}
+use Rattle.ssa_ir.specs.declared.types.Scalar.TheVariants.{Bool as TrueOrFalse, Ptr}
 use Rattle.ssa_ir.specs.declared.types.Ty.{Ty}
 use Rattle.ssa_ir.specs.declared.types.Ty.TheVariants.{One, Mem, Tuple}
 use Rattle.ssa_ir.specs.Names.{is_name_start, is_digit}

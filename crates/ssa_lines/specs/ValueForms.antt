@@ -1,5 +1,6 @@
 -- The lines of values: what the words of one spell, by themselves.
-use Rattle.std.specs.Prelude.{ℕ, nat_eq, Bool, true, false, ◌&&◌, if◌then◌else◌, List, [], ◌∷◌, ◌++◌, codes, drop, is_some, map, Option, None, Some}
+use Rattle.std.specs.Prelude.{ℕ, nat_eq, Bool, true, false, ◌&&◌, if◌then◌else◌, List, [], ◌∷◌, ◌++◌, codes, drop}
+use Rattle.std.specs.Prelude.{is_some, map, Option, None, Some}
 use Rattle.std.specs.List.{starts_with}
 use Rattle.std.specs.Option.{option_map}
 use Rattle.gossa_base.specs.declared.ids.ValueId.{ValueId}
@@ -162,7 +163,8 @@ aux_of_name op bracket (Some inside) = do
 
 -- a type in braces, and no brackets
 abbrev pub aux_of_elem : Option Bracket → Option (List ℕ) → Option Aux
-aux_of_elem None (Some inside) = option_map (λ t. record { number = Word 0; sym = None; elem = Some t }) (scalar_of inside)
+aux_of_elem None (Some inside) =
+    option_map (λ t. record { number = Word 0; sym = None; elem = Some t }) (scalar_of inside)
 aux_of_elem _ _ = None
 
 -- true or false in brackets, which is dropped, or neither; no braces

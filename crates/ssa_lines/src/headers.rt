@@ -4,7 +4,8 @@ ghost use Rattle.std.specs.Prelude.{◌≡◌, [], ◌∷◌, option_copied, IfO
 ghost use Rattle.std.specs.Option.{option_map};
 ghost use Rattle.std.specs.List.{list_all};
 ghost use Rattle.ssa_ir.specs.Names.{is_name_start, is_name_byte, has_name_bytes};
-ghost use Rattle.ssa_lines.specs.Headers.{is_name, type_before, types_ahead, group_ahead, group_or_type, results_of, signature_of};
+ghost use Rattle.ssa_lines.specs.Headers.{is_name, type_before, types_ahead, group_ahead, group_or_type, results_of};
+ghost use Rattle.ssa_lines.specs.Headers.{signature_of};
 ghost use Rattle.ssa_lines.specs.Words.{is_same, without_first, without_last};
 
 use crate::types::{cut_at, read_scalar};

@@ -5,6 +5,8 @@ ghost use Rattle.std.specs.Option.{option_map};
 ghost use Rattle.ssa_lines.specs.Counts.{counted};
 ghost use Rattle.ssa_lines.specs.Numbers.{digit_in, number_in, integer_of, number_behind, sized, in_limits};
 
+use ssa_ir::limits::MAX_NUMBER;
+
 /// An integer that a word spells.
 #[derive(Clone, Copy, Debug, PartialEq, Eq)]
 pub enum Integer {
@@ -23,8 +25,8 @@ pub enum Number {
     TooLarge,
 }
 
-/// The integer that a word spells: decimal digits, with `-` before them or not, or hexadecimal ones of either case behind
-/// `0x`; none where it spells none. Leading zeros are allowed.
+/// The integer that a word spells: decimal digits, with `-` before them or not, or hexadecimal ones of either case
+/// behind `0x`; none where it spells none. Leading zeros are allowed.
 pub fn read_integer(word: &[u8]) -> Option<Integer>
     ensures { result ≡ option_map sized (integer_of word.now) }
 {
@@ -124,7 +126,7 @@ fn number_in_limits(count: Digits) -> Number
     ensures { (n : ℕ) → count ≡ counted n → result ≡ in_limits n }
 {
     match count {
-        Digits::Fits(n) if 1 <= n && n <= 1_000_000 => Number::Fits(n as u32),
+        Digits::Fits(n) if 1 <= n && n <= MAX_NUMBER => Number::Fits(n as u32),
         _ => Number::TooLarge,
     }
 }

@@ -46,7 +46,8 @@ pub fn read_form(alloc: Global, line: &[u8]) -> Result<Form, NoMemory>
 
 // The form of a line of a function's body.
 fn read_body_form(alloc: Global, line: &[u8]) -> Result<Form, NoMemory>
-    ensures { IfOk result (λ form. form ≡ spec.control_or_other (spec.control_line (words_of line.now)) (words_of line.now)) }
+    ensures { IfOk result (λ form. form ≡ spec.control_or_other (spec.control_line (words_of line.now))
+        (words_of line.now)) }
 {
     if let Some(control) = read_control_line(alloc, &mut Words::of(line))? {
         return Ok(Form::Control(control));

@@ -1,9 +1,11 @@
 // The types that words spell.
 
-ghost use Rattle.std.specs.Prelude.{◌≡◌, ◌==◌, true, false, [], ◌∷◌, length, map, position, find, option_copied, IfOk, MatchOption};
+ghost use Rattle.std.specs.Prelude.{◌≡◌, ◌==◌, true, false, [], ◌∷◌, length, map, position, find, option_copied, IfOk};
+ghost use Rattle.std.specs.Prelude.{MatchOption};
 ghost use Rattle.std.specs.Option.{option_map};
 ghost use Rattle.std.specs.List.{before_first, after_first, list_any, list_all, slice_split};
-ghost use Rattle.ssa_lines.specs.Types.{is_comma, is_pointed_byte, is_pointer, scalar_of, scalar_among, type_names, tuple_of, type_of_parts, type_of};
+ghost use Rattle.ssa_lines.specs.Types.{is_comma, is_pointed_byte, is_pointer, scalar_of, scalar_among, type_names};
+ghost use Rattle.ssa_lines.specs.Types.{tuple_of, type_of_parts, type_of};
 ghost use Rattle.ssa_lines.specs.Words.{is_same, TakesNext};
 
 use crate::words::{is_same, without_first};

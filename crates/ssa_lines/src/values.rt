@@ -1,6 +1,7 @@
 // The lines of values.
 
-ghost use Rattle.std.specs.Prelude.{◌≡◌, ◌∷◌, codes, IfOk, IfSome, MatchOption, if◌then◌else◌, None, Some, option_copied};
+ghost use Rattle.std.specs.Prelude.{◌≡◌, ◌∷◌, codes, IfOk, IfSome, MatchOption, if◌then◌else◌, None, Some};
+ghost use Rattle.std.specs.Prelude.{option_copied};
 ghost use Rattle.ssa_ir.specs.Names.{IsName};
 ghost use Rattle.ssa_ir.specs.Ops.{row_of};
 ghost use Rattle.ssa_lines.specs.ValueForms as spec;
@@ -105,7 +106,8 @@ fn line_by_op(
     extras: &Extras,
     args: Spelled<Args>,
 ) -> Result<Option<ValueLine>, NoMemory>
-    ensures { IfOk result (λ line. line ≡ spec.line_by_op op id ty (extras_of extras.now.bracket (option_copied extras.now.brace)) args) }
+    ensures { IfOk result (λ line. line ≡ spec.line_by_op op id ty
+        (extras_of extras.now.bracket (option_copied extras.now.brace)) args) }
 {
     let Some(op) = op else {
         return Ok(Some(ValueLine::UnknownOp));
@@ -151,7 +153,8 @@ fn between(first: u8, last: u8, word: &[u8]) -> Option<&[u8]>
 
 // The brackets and braces at the front of the words, each at most once, in either order.
 fn read_extras<'a>(words: &mut Words<'a>) -> Option<Extras<'a>>
-    ensures { MatchOption result (spec.extras_ahead words.old ≡ None) (λ e. spec.extras_ahead words.old ≡ Some (extras_of e.bracket (option_copied e.brace), words.new)) }
+    ensures { MatchOption result (spec.extras_ahead words.old ≡ None) (λ e. spec.extras_ahead words.old
+        ≡ Some (extras_of e.bracket (option_copied e.brace), words.new)) }
 {
     if words.opens(b'[') {
         let bracket = read_bracket(words.next()?)?;
@@ -169,7 +172,9 @@ fn read_extras<'a>(words: &mut Words<'a>) -> Option<Extras<'a>>
 
 // Braces behind brackets.
 fn then_brace<'a>(bracket: Bracket, words: &mut Words<'a>) -> Option<Extras<'a>>
-    ensures { MatchOption result (spec.then_brace bracket (opens 123 words.old) words.old ≡ None) (λ e. spec.then_brace bracket (opens 123 words.old) words.old ≡ Some (extras_of e.bracket (option_copied e.brace), words.new)) }
+    ensures { MatchOption result (spec.then_brace bracket (opens 123 words.old) words.old
+        ≡ None) (λ e. spec.then_brace bracket (opens 123 words.old) words.old
+        ≡ Some (extras_of e.bracket (option_copied e.brace), words.new)) }
 {
     if !words.opens(b'{') {
         return Some(Extras {
@@ -186,7 +191,9 @@ fn then_brace<'a>(bracket: Bracket, words: &mut Words<'a>) -> Option<Extras<'a>>
 
 // Brackets behind braces.
 fn then_bracket<'a>(brace: &'a [u8], words: &mut Words<'a>) -> Option<Extras<'a>>
-    ensures { MatchOption result (spec.then_bracket brace.now (opens 91 words.old) words.old ≡ None) (λ e. spec.then_bracket brace.now (opens 91 words.old) words.old ≡ Some (extras_of e.bracket (option_copied e.brace), words.new)) }
+    ensures { MatchOption result (spec.then_bracket brace.now (opens 91 words.old) words.old
+        ≡ None) (λ e. spec.then_bracket brace.now (opens 91 words.old) words.old
+        ≡ Some (extras_of e.bracket (option_copied e.brace), words.new)) }
 {
     if !words.opens(b'[') {
         return Some(Extras {
@@ -254,7 +261,8 @@ fn is_skipped(first: &[u8], words: &mut Words) -> bool
 
 // What a value of this op has, where its brackets and braces are those of the op's row.
 fn read_aux(alloc: Global, op: Op, extras: &Extras) -> Result<Option<Aux>, NoMemory>
-    ensures { IfOk result (λ aux. aux ≡ spec.aux_by op (row_of op).aux (extras_of extras.now.bracket (option_copied extras.now.brace))) }
+    ensures { IfOk result (λ aux. aux ≡ spec.aux_by op (row_of op).aux
+        (extras_of extras.now.bracket (option_copied extras.now.brace))) }
 {
     match op_row(op).aux {
         AuxRule::Int => Ok(number_aux(op, extras)),

@@ -4,7 +4,8 @@ ghost use Rattle.std.specs.Prelude.{◌≡◌, ◌==◌, ◌≤◌, length};
 ghost use Rattle.std.specs.List.{prefix_len};
 ghost use Rattle.std.specs.Option.{option_copied};
 ghost use Rattle.ssa_lines.specs.Lines.{is_space};
-ghost use Rattle.ssa_lines.specs.Words.{words_of, is_word_byte, is_same, without_first, without_last, is_marked, opens, TakesNext};
+ghost use Rattle.ssa_lines.specs.Words.{words_of, is_word_byte, is_same, without_first, without_last, is_marked, opens};
+ghost use Rattle.ssa_lines.specs.Words.{TakesNext};
 
 use std::marker::Model;
 

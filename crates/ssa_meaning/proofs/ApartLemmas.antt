@@ -1,15 +1,17 @@
 -- Values of different numbers, in a function and in each of its blocks.
-use Rattle.std.proofs.Common.{◌≡◌, ◌≢◌, ℕ, zero, suc, ◌<◌, List, [], ◌∷◌, ◌++◌, map, length, slice_get, slice_index_or, Some, subst, arith}
+use Rattle.std.proofs.Common.{◌≡◌, ◌≢◌, ℕ, zero, suc, ◌<◌, List, [], ◌∷◌, ◌++◌, map, length, slice_get, slice_index_or}
+use Rattle.std.proofs.Common.{Some, subst, arith}
 use Rattle.std.specs.List.{flat_map}
 use Rattle.ssa_ir.specs.declared.func.Value.{Value}
 use Rattle.ssa_ir.specs.declared.func.Block.{Block}
 use Rattle.ssa_ir.specs.WellFormed.{Differ}
-use Rattle.ssa_meaning.specs.Runnable.{IsApart, AreApart}
+use Rattle.block_order.specs.Apart.{IsApart, AreApart}
 
 abbrev numbers : List Value → List ℕ
 numbers values = map (λ v. v.id.0) values
 
-apart_from : (n : ℕ) (values : List Value) → ((k d : ℕ) → k < length (numbers values) → n ≢ slice_index_or (numbers values) k d) → IsApart n values
+apart_from : (n : ℕ) (values : List Value)
+    → ((k d : ℕ) → k < length (numbers values) → n ≢ slice_index_or (numbers values) k d) → IsApart n values
 apart_from n [] h = tt
 apart_from n (v ∷ values) h = (h 0 0 (omega arith), apart_from n values (λ k d lt. h (suc k) d (omega (arith, lt))))
 
@@ -33,9 +35,11 @@ apart_back [] ys h = h
 apart_back (x ∷ xs) ys h = apart_back xs ys h.1
 
 -- so in each block
-pub block_apart : (blocks : List Block) (i : ℕ) (b : Block) → AreApart (flat_map (λ c. c.values) blocks) → slice_get blocks i ≡ Some b → AreApart b.values
+pub block_apart : (blocks : List Block) (i : ℕ) (b : Block) → AreApart (flat_map (λ c. c.values) blocks)
+    → slice_get blocks i ≡ Some b → AreApart b.values
 block_apart [] i b h at = cc
 block_apart (c ∷ blocks) zero b h at =
     let same : c ≡ b = cc in
     subst (λ x. AreApart x.values) same (apart_front c.values (flat_map (λ x. x.values) blocks) h)
-block_apart (c ∷ blocks) (suc i) b h at = block_apart blocks i b (apart_back c.values (flat_map (λ x. x.values) blocks) h) at
+block_apart (c ∷ blocks) (suc i) b h at =
+    block_apart blocks i b (apart_back c.values (flat_map (λ x. x.values) blocks) h) at

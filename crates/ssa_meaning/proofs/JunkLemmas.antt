@@ -1,5 +1,6 @@
 -- Runs with other junk show the same: they show what they show where all junk is 0.
-use Rattle.std.proofs.Common.{◌≡◌, ℕ, zero, suc, Bool, cond, eqb, List, [], ◌∷◌, length, map, Option, None, Some, slice_get, unwrap_or, refl, ap, sym, ◌∙◌}
+use Rattle.std.proofs.Common.{◌≡◌, ℕ, zero, suc, Bool, cond, eqb, List, [], ◌∷◌, length, map, Option, None, Some}
+use Rattle.std.proofs.Common.{slice_get, unwrap_or, refl, ap, sym, ◌∙◌}
 use Rattle.gossa_base.specs.declared.ids.BlockId.{BlockId}
 use Rattle.ssa_ir.specs.declared.case.Case.{Case}
 use Rattle.ssa_ir.specs.declared.case.Piece.{Piece}
@@ -12,13 +13,16 @@ use Rattle.ssa_ir.specs.declared.func.Block.{Block}
 use Rattle.ssa_ir.specs.declared.func.Func.{Func}
 use Rattle.ssa_ir.specs.declared.func.SsaUnit.{SsaUnit}
 use Rattle.ssa_ir.specs.declared.role.Role.{Role}
-use Rattle.ssa_ir.specs.declared.role.Role.TheVariants.{Computes, TakesParameter, TakesAddress, Loads, Stores, ChecksNil, Calls, Rests, NotBuilt}
+use Rattle.ssa_ir.specs.declared.role.Role.TheVariants.{Computes, TakesParameter, TakesAddress, Loads, Stores}
+use Rattle.ssa_ir.specs.declared.role.Role.TheVariants.{ChecksNil, Calls, Rests, NotBuilt}
 use Rattle.ssa_ir.specs.Edges.{block_named, edge_number}
 use Rattle.ssa_ir.specs.Inputs.{Inputs, Answer, answer_of, inputs_of, parameter_word, pieces_of, symbol_in, symbol_word}
 use Rattle.ssa_ir.specs.Lookups.{sig_of}
 use Rattle.ssa_ir.specs.Phis.{entered}
 use Rattle.ssa_ir.specs.Roles.{role}
-use Rattle.ssa_ir.specs.Run.{Form, State, generic, with_word, computed, pointer, loaded_word, stored_memory, shown_of, with_answer, takes_answer, control_word, is_set, run_role, run_values, arrives, goes_to, leaves, run_control, run_block, to_counted, turns, begun, run_from, run}
+use Rattle.ssa_ir.specs.Run.{Form, State, generic, with_word, computed, pointer, loaded_word, stored_memory, shown_of}
+use Rattle.ssa_ir.specs.Run.{with_answer, takes_answer, control_word, is_set, run_role, run_values, arrives, goes_to}
+use Rattle.ssa_ir.specs.Run.{leaves, run_control, run_block, to_counted, turns, begun, run_from, run}
 use Rattle.ssa_ir.specs.Showing.{call_then}
 use Rattle.ssa_ir.specs.Widths.{kept}
 use Rattle.ssa_meaning.specs.CaseRun.{case_shown, shown_of_function}

@@ -1,5 +1,6 @@
 -- A function made ready: where its edges go, and its blocks one after the other.
-use Rattle.std.proofs.Common.{◌≡◌, ℕ, zero, suc, ◌+◌, ◌≤◌, ◌<◌, ◌⊎◌, inl, inr, List, [], ◌∷◌, ◌++◌, length, get_or, slice_get, Option, None, Some, refl, sym, ap, subst, ◌∙◌, arith}
+use Rattle.std.proofs.Common.{◌≡◌, ℕ, zero, suc, ◌+◌, ◌≤◌, ◌<◌, ◌⊎◌, inl, inr, List, [], ◌∷◌, ◌++◌, length, get_or}
+use Rattle.std.proofs.Common.{slice_get, Option, None, Some, refl, sym, ap, subst, ◌∙◌, arith}
 use Rattle.std.specs.List.{position_or_len}
 use Rattle.std.proofs.lemmas.Bool.{cases_lt}
 use Rattle.std.proofs.lemmas.List.{get_or_append_left, get_or_at, get_or_past, length_push}
@@ -14,9 +15,10 @@ use Rattle.ssa_meaning.specs.declared.ready.Way.{Way}
 use Rattle.ssa_meaning.specs.declared.ready.ReadyBlock.{ReadyBlock}
 use Rattle.ssa_meaning.specs.declared.ready.ReadyFunc.{ReadyFunc}
 use Rattle.ssa_meaning.specs.Ready.{Arrives, GoesNowhere, IsReady, IsReadyBlock, LeadsTo}
-use Rattle.ssa_meaning.specs.Runnable.{AreApart}
+use Rattle.block_order.specs.Apart.{AreApart}
 use Rattle.ssa_meaning.proofs.ApartLemmas.{are_apart, block_apart}
-use Rattle.ssa_meaning.proofs.ReadyNames.{block_at, names}
+use Rattle.ssa_tables.proofs.BlockTableLemmas.{block_at}
+use Rattle.ssa_tables.specs.Blocks.{names}
 
 -- ---- edges
 

@@ -1,5 +1,6 @@
 -- Runs with more replies: what didn't ask for a reply that wasn't there stays as it was.
-use Rattle.std.proofs.Common.{◌≡◌, ◌≢◌, ℕ, zero, suc, Bool, true, false, cond, eqb, List, [], ◌∷◌, ◌++◌, length, map, Option, None, Some, slice_get, unwrap_or, refl, ap, subst, sym, ◌∙◌}
+use Rattle.std.proofs.Common.{◌≡◌, ◌≢◌, ℕ, zero, suc, Bool, true, false, cond, eqb, List, [], ◌∷◌, ◌++◌, length, map}
+use Rattle.std.proofs.Common.{Option, None, Some, slice_get, unwrap_or, refl, ap, subst, sym, ◌∙◌}
 use Rattle.std.proofs.lemmas.List.{map-append}
 use Rattle.gossa_base.specs.declared.ids.BlockId.{BlockId}
 use Rattle.ssa_ir.specs.declared.case.CallShown.{CallShown}
@@ -13,13 +14,16 @@ use Rattle.ssa_ir.specs.declared.func.Block.{Block}
 use Rattle.ssa_ir.specs.declared.func.Func.{Func}
 use Rattle.ssa_ir.specs.declared.func.SsaUnit.{SsaUnit}
 use Rattle.ssa_ir.specs.declared.role.Role.{Role}
-use Rattle.ssa_ir.specs.declared.role.Role.TheVariants.{Computes, TakesParameter, TakesAddress, Loads, Stores, ChecksNil, Calls, Rests, NotBuilt}
+use Rattle.ssa_ir.specs.declared.role.Role.TheVariants.{Computes, TakesParameter, TakesAddress, Loads, Stores}
+use Rattle.ssa_ir.specs.declared.role.Role.TheVariants.{ChecksNil, Calls, Rests, NotBuilt}
 use Rattle.ssa_ir.specs.Edges.{block_named, edge_number}
 use Rattle.ssa_ir.specs.Inputs.{Inputs, Answer, answer_of, inputs_of, junk_of, parameter_word, symbol_in, symbol_word}
 use Rattle.ssa_ir.specs.Lookups.{sig_of}
 use Rattle.ssa_ir.specs.Phis.{entered}
 use Rattle.ssa_ir.specs.Roles.{role}
-use Rattle.ssa_ir.specs.Run.{Form, State, generic, with_word, computed, pointer, loaded_word, stored_memory, shown_of, with_answer, takes_answer, control_word, is_set, run_role, run_values, arrives, goes_to, leaves, run_control, run_block, to_counted, turns, begun, run_from, run}
+use Rattle.ssa_ir.specs.Run.{Form, State, generic, with_word, computed, pointer, loaded_word, stored_memory, shown_of}
+use Rattle.ssa_ir.specs.Run.{with_answer, takes_answer, control_word, is_set, run_role, run_values, arrives, goes_to}
+use Rattle.ssa_ir.specs.Run.{leaves, run_control, run_block, to_counted, turns, begun, run_from, run}
 use Rattle.ssa_ir.specs.Showing.{call_then}
 use Rattle.ssa_ir.specs.Widths.{kept}
 use Rattle.ssa_ir.proofs.RunLemmas.{ended_stays}

@@ -1,5 +1,6 @@
 -- The words of a call's selects, put by index, are those of the answer.
-use Rattle.std.proofs.Common.{◌≡◌, ◌≢◌, ℕ, ◌+◌, ◌<◌, ◌≤◌, Bool, true, false, cond, eqb, List, [], ◌∷◌, length, drop, filter, slice_get, slice_index_or, Option, None, Some, refl, sym, ap, subst, ◌∙◌}
+use Rattle.std.proofs.Common.{◌≡◌, ◌≢◌, ℕ, ◌+◌, ◌<◌, ◌≤◌, Bool, true, false, cond, eqb, List, [], ◌∷◌, length, drop}
+use Rattle.std.proofs.Common.{filter, slice_get, slice_index_or, Option, None, Some, refl, sym, ap, subst, ◌∙◌}
 use Rattle.std.proofs.lemmas.Bool.{eqb-true}
 use Rattle.std.proofs.lemmas.List.{drop_all, drop_more}
 use Rattle.std.specs.Option.{option_to_list}
@@ -11,13 +12,14 @@ use Rattle.ssa_ir.specs.Calls.{answered}
 use Rattle.ssa_ir.specs.FirstOrder.{selects, put_by_number, by_number}
 use Rattle.ssa_ir.specs.Inputs.{Answer}
 use Rattle.ssa_ir.specs.Run.{put}
-use Rattle.ssa_meaning.specs.Items.{values_at}
+use Rattle.block_order.specs.Items.{values_at}
 use Rattle.ssa_meaning.specs.Puts.{puts, select_word_of}
-use Rattle.ssa_meaning.specs.Runnable.{IsApart, AreApart}
+use Rattle.block_order.specs.Apart.{IsApart, AreApart}
 use Rattle.ssa_meaning.proofs.TableLemmas.{selects_answered}
 
 -- tables with the same words have the same words after these were put
-pub puts_same : (word : Value → ℕ) (values : List Value) (a b : ℕ → ℕ) → ((n : ℕ) → a n ≡ b n) → (n : ℕ) → puts word values a n ≡ puts word values b n
+pub puts_same : (word : Value → ℕ) (values : List Value) (a b : ℕ → ℕ) → ((n : ℕ) → a n ≡ b n) → (n : ℕ)
+    → puts word values a n ≡ puts word values b n
 puts_same word values a b e n = ap (λ words. puts word values words n) (λ i k. e k i)
 
 -- one more value, where there is one
@@ -35,7 +37,8 @@ pub puts_one : (word : Value → ℕ) (values : List Value) (indexes : List ℕ)
 puts_one word values indexes i now next all lt e so_far n =
     puts_same word (values_at values (drop (i + 1) indexes)) next
     (puts word (option_to_list (slice_get values (slice_index_or indexes i 0))) now) e n
-    ∙ sym (puts_option word (slice_get values (slice_index_or indexes i 0)) (values_at values (drop (i + 1) indexes)) now n)
+    ∙ sym (puts_option word (slice_get values (slice_index_or indexes i 0)) (values_at values (drop (i + 1) indexes))
+    now n)
     ∙ ap (λ l. puts word (values_at values l) now n) (sym (drop_more indexes i 0 lt))
     ∙ so_far n
 
@@ -66,7 +69,8 @@ insert_puts word v [] words n h = refl
 insert_puts word v (u ∷ values) words n h =
     go (int_lt u.aux v.aux)
     (insert_puts word v values (put words u.id.0 (word u)) n h.1
-    ∙ puts_same word values (put (put words u.id.0 (word u)) v.id.0 (word v)) (put (put words v.id.0 (word v)) u.id.0 (word u))
+    ∙ puts_same word values (put (put words u.id.0 (word u)) v.id.0 (word v))
+    (put (put words v.id.0 (word v)) u.id.0 (word u))
     (λ k. put_swapped words u.id.0 (word u) v.id.0 (word v) k (λ e. h.0 (sym e))) n)
   where
     go : (b : Bool) → puts word (u ∷ put_by_number v values) words n ≡ puts word (v ∷ u ∷ values) words n
@@ -74,11 +78,13 @@ insert_puts word v (u ∷ values) words n h =
     go true e = e
     go false e = refl
 
-apart_put : (n : ℕ) (v : Value) (values : List Value) → n ≢ v.id.0 → IsApart n values → IsApart n (put_by_number v values)
+apart_put : (n : ℕ) (v : Value) (values : List Value) → n ≢ v.id.0 → IsApart n values
+    → IsApart n (put_by_number v values)
 apart_put n v [] ne h = (ne, tt)
 apart_put n v (u ∷ values) ne h = go (int_lt u.aux v.aux) (apart_put n v values ne h.1)
   where
-    go : (b : Bool) → IsApart n (put_by_number v values) → IsApart n (cond b (u ∷ put_by_number v values) (v ∷ u ∷ values))
+    go : (b : Bool) → IsApart n (put_by_number v values)
+        → IsApart n (cond b (u ∷ put_by_number v values) (v ∷ u ∷ values))
     go true later = (h.0, later)
     go false later = (ne, h)
 
@@ -111,11 +117,13 @@ are_apart_filter test (v ∷ values) h = go (test v) (are_apart_filter test valu
     go false later = later
 
 -- so the selects of a call by index have the words of the answer
-pub selects_put : (values : List Value) (call : ValueId) (answer : Answer) (indexes : List ℕ) (words next : ℕ → ℕ) → AreApart values
+pub selects_put : (values : List Value) (call : ValueId) (answer : Answer) (indexes : List ℕ) (words next : ℕ → ℕ)
+    → AreApart values
     → values_at values indexes ≡ by_number (filter (selects call) values)
     → ((n : ℕ) → next n ≡ puts (select_word_of answer) (values_at values indexes) words n)
     → (n : ℕ) → next n ≡ answered false values call answer words n
 selects_put values call answer indexes words next apart is e n =
     e n ∙ ap (λ l. puts (select_word_of answer) l words n) is
-    ∙ sorted_puts (select_word_of answer) (filter (selects call) values) words n (are_apart_filter (selects call) values apart)
+    ∙ sorted_puts (select_word_of answer) (filter (selects call) values) words n
+    (are_apart_filter (selects call) values apart)
     ∙ selects_answered false values call answer words n apart

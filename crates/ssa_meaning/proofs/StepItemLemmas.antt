@@ -1,5 +1,6 @@
 -- The selects of a call rest, an item is its value, and items come one after the other.
-use Rattle.std.proofs.Common.{◌≡◌, ◌+◌, ℕ, suc, Bool, true, false, cond, ◌&&◌, List, [], ◌∷◌, ◌++◌, filter, drop, slice_get, Some, refl, ap, ◌∙◌, arith}
+use Rattle.std.proofs.Common.{◌≡◌, ◌+◌, ℕ, suc, Bool, true, false, cond, ◌&&◌, List, [], ◌∷◌, ◌++◌, filter, drop}
+use Rattle.std.proofs.Common.{slice_get, Some, refl, ap, ◌∙◌, arith}
 use Rattle.std.specs.Prelude.{int_lt}
 use Rattle.std.specs.List.{flat_map, list_any, cons_option}
 use Rattle.gossa_base.specs.declared.ids.ValueId.{ValueId}
@@ -9,12 +10,13 @@ use Rattle.ssa_ir.specs.declared.func.Value.{Value}
 use Rattle.ssa_ir.specs.declared.op.Op.{Op}
 use Rattle.ssa_ir.specs.declared.op.Op.TheVariants.{SelectN}
 use Rattle.ssa_ir.specs.declared.role.Role.TheVariants.{Rests}
-use Rattle.ssa_ir.specs.FirstOrder.{is_call, is_follower, same_value, selects, put_by_number, by_number, followers_of}
+use Rattle.ssa_ir.specs.FirstOrder.{same_value, selects, put_by_number, by_number, followers_of}
+use Rattle.ssa_ir.specs.OpKinds.{is_call, is_follower}
 use Rattle.ssa_ir.specs.Inputs.{Inputs}
 use Rattle.ssa_ir.specs.Roles.{role}
 use Rattle.ssa_ir.specs.Run.{Form, State, run_role, run_values}
-use Rattle.ssa_meaning.specs.declared.order.Item.{Item}
-use Rattle.ssa_meaning.specs.Items.{values_at, item_values}
+use Rattle.block_order.specs.declared.order.Item.{Item}
+use Rattle.block_order.specs.Items.{values_at, item_values}
 use Rattle.ssa_meaning.specs.Ran.{behind, Next, next_shown, Ran}
 use Rattle.ssa_meaning.proofs.RanLemmas.{values_append}
 use Rattle.ssa_meaning.proofs.StepLemmas.{drop_at_item}

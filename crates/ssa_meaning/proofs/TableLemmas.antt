@@ -1,19 +1,21 @@
 -- Words put one after the other, and what each value then has.
-use Rattle.std.proofs.Common.{◌≡◌, ◌≢◌, ℕ, Bool, true, false, cond, eqb, List, [], ◌∷◌, filter, Option, None, Some, slice_index_or, refl, sym, ap, ◌∙◌, subst}
+use Rattle.std.proofs.Common.{◌≡◌, ◌≢◌, ℕ, Bool, true, false, cond, eqb, List, [], ◌∷◌, filter, Option, None, Some}
+use Rattle.std.proofs.Common.{slice_index_or, refl, sym, ap, ◌∙◌, subst}
 use Rattle.std.proofs.lemmas.Bool.{eqb-true, eq-eqb}
 use Rattle.gossa_base.specs.declared.ids.ValueId.{ValueId}
 use Rattle.ssa_ir.specs.declared.func.Value.{Value}
 use Rattle.ssa_ir.specs.declared.op.Op.{Op}
 use Rattle.ssa_ir.specs.declared.op.Op.TheVariants.{Phi}
 use Rattle.ssa_ir.specs.Calls.{result_or, answered}
-use Rattle.ssa_ir.specs.FirstOrder.{is_phi, selects}
+use Rattle.ssa_ir.specs.FirstOrder.{selects}
+use Rattle.ssa_ir.specs.OpKinds.{is_phi}
 use Rattle.ssa_ir.specs.Inputs.{Answer, result_word}
 use Rattle.ssa_ir.specs.Lookups.{value_named}
 use Rattle.ssa_ir.specs.Phis.{source_by_op, source_of, entered}
 use Rattle.ssa_ir.specs.Run.{put}
 use Rattle.ssa_ir.specs.Widths.{kept}
 use Rattle.ssa_meaning.specs.Puts.{puts, phi_word}
-use Rattle.ssa_meaning.specs.Runnable.{IsApart, AreApart}
+use Rattle.block_order.specs.Apart.{IsApart, AreApart}
 
 -- the word of a value that was found, where it passes a test
 abbrev pub word_of_found : (Value → Bool) → (Value → ℕ) → Option Value → ℕ → ℕ
@@ -38,7 +40,9 @@ put_here words k w n e = ap (λ b. cond b w (words n)) e
 pub puts_apart : (word : Value → ℕ) (test : Value → Bool) (values : List Value) (words : ℕ → ℕ) (n : ℕ)
     → IsApart n values → puts word (filter test values) words n ≡ words n
 puts_apart word test [] words n h = refl
-puts_apart word test (v ∷ values) words n h = by_test (test v) refl (puts_apart word test values words n h.1) (puts_apart word test values (put words v.id.0 (word v)) n h.1)
+puts_apart word test (v ∷ values) words n h =
+    by_test (test v) refl (puts_apart word test values words n h.1)
+    (puts_apart word test values (put words v.id.0 (word v)) n h.1)
   where
     by_test : (b : Bool) → test v ≡ b → puts word (filter test values) words n ≡ words n
         → puts word (filter test values) (put words v.id.0 (word v)) n ≡ put words v.id.0 (word v) n
@@ -50,7 +54,8 @@ puts_apart word test (v ∷ values) words n h = by_test (test v) refl (puts_apar
         ap (λ b. puts word (cond b (v ∷ filter test values) (filter test values)) words n) e ∙ without
 
 -- after words were put for the values that pass a test, the value of a number has its word
-pub puts_found : (word : Value → ℕ) (test : Value → Bool) (values : List Value) (words : ℕ → ℕ) (n : ℕ) → AreApart values
+pub puts_found : (word : Value → ℕ) (test : Value → Bool) (values : List Value) (words : ℕ → ℕ) (n : ℕ)
+    → AreApart values
     → puts word (filter test values) words n ≡ word_of_found test word (value_named values (record { 0 = n })) (words n)
 puts_found word test [] words n h = refl
 puts_found word test (v ∷ values) words n h =
@@ -78,7 +83,8 @@ puts_found word test (v ∷ values) words n h =
     not_here f e = true_is_not_false (sym (eq-eqb v.id.0 n (sym e)) ∙ f)
 
     go : (found passes : Bool) → eqb v.id.0 n ≡ found → test v ≡ passes
-        → ((w : ℕ → ℕ) → puts word rest w n ≡ word_of_found test word later (w n)) → left (test v) ≡ right (eqb v.id.0 n)
+        → ((w : ℕ → ℕ) → puts word rest w n ≡ word_of_found test word later (w n))
+        → left (test v) ≡ right (eqb v.id.0 n)
     go true true ef ep onward =
         ap left ep ∙ puts_apart word test values with n (here ef)
         ∙ put_here words v.id.0 (word v) n (eq-eqb n v.id.0 (sym (eqb-true v.id.0 n ef)))
@@ -93,25 +99,30 @@ puts_found word test (v ∷ values) words n h =
     go false false ef ep onward = ap left ep ∙ onward words ∙ sym (ap right ef)
 
 -- the number of a value that was found
-pub found_number : (values : List Value) (n : ℕ) (v : Value) → value_named values (record { 0 = n }) ≡ Some v → v.id.0 ≡ n
+pub found_number : (values : List Value) (n : ℕ) (v : Value) → value_named values (record { 0 = n }) ≡ Some v
+    → v.id.0 ≡ n
 found_number [] n v e = cc
 found_number (u ∷ values) n v e = go (eqb u.id.0 n) refl (λ f. found_number values n v f)
   where
     go : (b : Bool) → eqb u.id.0 n ≡ b → (value_named values (record { 0 = n }) ≡ Some v → v.id.0 ≡ n) → v.id.0 ≡ n
     go true same onward =
-        let first : Some u ≡ Some v = sym (ap (λ b. cond b (Some u) (value_named values (record { 0 = n }))) same) ∙ e in
+        let first : Some u ≡ Some v =
+        sym (ap (λ b. cond b (Some u) (value_named values (record { 0 = n }))) same) ∙ e in
         let is : u ≡ v = cc in
         sym (ap (λ w. w.id.0) is) ∙ eqb-true u.id.0 n same
     go false other onward = onward (sym (ap (λ b. cond b (Some u) (value_named values (record { 0 = n }))) other) ∙ e)
 
 -- the words that a call's selects get, one after the other, are those of the answer
-pub selects_answered : (whole : Bool) (values : List Value) (call : ValueId) (answer : Answer) (words : ℕ → ℕ) (n : ℕ) → AreApart values
-    → puts (λ v. kept whole v.ty (result_word answer v.aux)) (filter (selects call) values) words n ≡ answered whole values call answer words n
+pub selects_answered : (whole : Bool) (values : List Value) (call : ValueId) (answer : Answer) (words : ℕ → ℕ) (n : ℕ)
+    → AreApart values
+    → puts (λ v. kept whole v.ty (result_word answer v.aux)) (filter (selects call) values) words n
+    ≡ answered whole values call answer words n
 selects_answered whole values call answer words n apart =
     puts_found (λ v. kept whole v.ty (result_word answer v.aux)) (selects call) values words n apart
     ∙ same (value_named values (record { 0 = n }))
   where
-    same : (o : Option Value) → word_of_found (selects call) (λ v. kept whole v.ty (result_word answer v.aux)) o (words n)
+    same : (o : Option Value) → word_of_found (selects call) (λ v. kept whole v.ty (result_word answer v.aux)) o
+        (words n)
         ≡ result_or whole answer call o (words n)
     same None = refl
     same (Some v) = refl
@@ -125,7 +136,8 @@ taken_by_op k n words id args _ e = ap words (sym e)
 pub phis_entered : (values : List Value) (k : ℕ) (words : ℕ → ℕ) (n : ℕ) → AreApart values
     → puts (phi_word k words) (filter (λ v. is_phi v.op) values) words n ≡ entered values (Some k) words n
 phis_entered values k words n apart =
-    puts_found (phi_word k words) (λ v. is_phi v.op) values words n apart ∙ same (value_named values (record { 0 = n })) refl
+    puts_found (phi_word k words) (λ v. is_phi v.op) values words n apart
+    ∙ same (value_named values (record { 0 = n })) refl
   where
     same : (o : Option Value) → value_named values (record { 0 = n }) ≡ o
         → word_of_found (λ v. is_phi v.op) (phi_word k words) o (words n) ≡ words (source_of k n o)

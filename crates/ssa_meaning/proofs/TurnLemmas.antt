@@ -1,5 +1,6 @@
 -- Turns of a run, one after the other, and what a run asks of each block of a well-formed function.
-use Rattle.std.proofs.Common.{◌≡◌, ◌<◌, ◌+◌, ◌-◌, ℕ, zero, suc, false, cond, IsTrue, IsSome, List, [], ◌∷◌, ◌++◌, length, drop, slice_get, slice_index_or, Option, Some, refl, sym, ap, subst, ◌∙◌, arith}
+use Rattle.std.proofs.Common.{◌≡◌, ◌<◌, ◌+◌, ◌-◌, ℕ, zero, suc, false, cond, IsTrue, IsSome, List, [], ◌∷◌, ◌++◌}
+use Rattle.std.proofs.Common.{length, drop, slice_get, slice_index_or, Option, Some, refl, sym, ap, subst, ◌∙◌, arith}
 use Rattle.std.specs.List.{All, flat_map}
 use Rattle.std.proofs.lemmas.List.{append-nil}
 use Rattle.std.proofs.lemmas.Option.{get_or_from_slice_get, slice_get_within}

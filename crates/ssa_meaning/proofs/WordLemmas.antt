@@ -1,17 +1,18 @@
 -- Tables of words: room for all values, and words put one after the other.
-use Rattle.std.proofs.Common.{◌≡◌, ℕ, zero, suc, ◌+◌, ◌<◌, ◌≤◌, List, [], ◌∷◌, length, take, drop, map, filter, slice_index_or, Bool, true, false, cond, Some, All, refl, sym, ap, subst, ◌∙◌, arith}
+use Rattle.std.proofs.Common.{◌≡◌, ℕ, zero, suc, ◌+◌, ◌<◌, ◌≤◌, List, [], ◌∷◌, length, take, drop, map, filter}
+use Rattle.std.proofs.Common.{slice_index_or, Bool, true, false, cond, Some, All, refl, sym, ap, subst, ◌∙◌, arith}
 use Rattle.std.specs.List.{flat_map}
 use Rattle.std.proofs.lemmas.List.{take_all, drop_more}
 use Rattle.std.proofs.lemmas.List.Elements.{All-append, All-cons}
 use Rattle.gossa_base.specs.declared.ids.ValueId.{ValueId}
 use Rattle.ssa_ir.specs.declared.func.Block.{Block}
 use Rattle.ssa_ir.specs.declared.func.Value.{Value}
-use Rattle.ssa_ir.specs.FirstOrder.{is_phi}
+use Rattle.ssa_ir.specs.OpKinds.{is_phi}
 use Rattle.ssa_ir.specs.Phis.{entered}
 use Rattle.ssa_ir.specs.Run.{put}
 use Rattle.ssa_meaning.specs.Puts.{puts, put_all, phi_pair, phi_word, select_word_of}
 use Rattle.ssa_meaning.specs.declared.words.WordTable.{WordTable}
-use Rattle.ssa_meaning.specs.Runnable.{AreApart}
+use Rattle.block_order.specs.Apart.{AreApart}
 use Rattle.ssa_meaning.specs.Running.{words_of}
 use Rattle.ssa_meaning.proofs.TableLemmas.{phis_entered}
 
@@ -28,10 +29,12 @@ pub all_taken : (n i : ℕ) (items blocks : List Block) → items ≡ blocks →
     → All (λ (b : Block). All (λ (v : Value). v.id.0 < n) b.values) (take i items)
     → All (λ (v : Value). v.id.0 < n) (flat_map (λ b. b.values) blocks)
 all_taken n i items blocks e le h =
-    all_flat n blocks (subst (λ bs. All (λ (b : Block). All (λ (v : Value). v.id.0 < n) b.values) bs) (take_all i items le ∙ e) h)
+    all_flat n blocks (subst (λ bs. All (λ (b : Block). All (λ (v : Value). v.id.0 < n) b.values) bs)
+    (take_all i items le ∙ e) h)
 
 -- tables with the same words have the same words after these were put
-pub put_same : (pairs : List (ValueId × ℕ)) (a b : ℕ → ℕ) → ((n : ℕ) → a n ≡ b n) → (n : ℕ) → put_all pairs a n ≡ put_all pairs b n
+pub put_same : (pairs : List (ValueId × ℕ)) (a b : ℕ → ℕ) → ((n : ℕ) → a n ≡ b n) → (n : ℕ)
+    → put_all pairs a n ≡ put_all pairs b n
 put_same pairs a b e n = ap (λ words. put_all pairs words n) (λ i k. e k i)
 
 -- one pair is put, and the others are left
@@ -46,7 +49,8 @@ put_one pairs i pair now next all lt is e so_far n =
     ∙ so_far n
 
 -- the pairs of phis are those of values
-pub pairs_below : (len k : ℕ) (words : ℕ → ℕ) (test : Value → Bool) (values : List Value) → All (λ (v : Value). v.id.0 < len) values
+pub pairs_below : (len k : ℕ) (words : ℕ → ℕ) (test : Value → Bool) (values : List Value)
+    → All (λ (v : Value). v.id.0 < len) values
     → All (λ (p : ValueId × ℕ). p.0.0 < len) (map (phi_pair k words) (filter test values))
 pairs_below len k words test [] h = λ i d lt. absurd (omega (arith, lt))
 pairs_below len k words test (v ∷ values) h =
@@ -57,7 +61,8 @@ pairs_below len k words test (v ∷ values) h =
 
     go : (b : Bool) → v.id.0 < len → All (λ (p : ValueId × ℕ). p.0.0 < len) (map (phi_pair k words) rest)
         → All (λ (p : ValueId × ℕ). p.0.0 < len) (map (phi_pair k words) (cond b (v ∷ rest) rest))
-    go true first others = All-cons (λ (p : ValueId × ℕ). p.0.0 < len) (phi_pair k words v) (map (phi_pair k words) rest) first others
+    go true first others =
+        All-cons (λ (p : ValueId × ℕ). p.0.0 < len) (phi_pair k words v) (map (phi_pair k words) rest) first others
     go false first others = others
 
 -- the pairs put are the words put
@@ -67,7 +72,8 @@ pairs_put word [] words = refl
 pairs_put word (v ∷ values) words = pairs_put word values (put words v.id.0 (word v))
 
 -- so a block is entered
-pub pairs_entered : (values : List Value) (k : ℕ) (now words next : ℕ → ℕ) (pairs : List (ValueId × ℕ)) → AreApart values
+pub pairs_entered : (values : List Value) (k : ℕ) (now words next : ℕ → ℕ) (pairs : List (ValueId × ℕ))
+    → AreApart values
     → pairs ≡ map (phi_pair k words) (filter (λ v. is_phi v.op) values)
     → ((n : ℕ) → now n ≡ words n) → ((n : ℕ) → next n ≡ put_all pairs now n)
     → (n : ℕ) → next n ≡ entered values (Some k) words n

@@ -1,7 +1,7 @@
 -- What stays the same in a run.
 use Rattle.std.specs.Prelude.{◌≡◌, ℕ, List}
 use Rattle.ssa_ir.specs.Inputs.{symbol_in}
-use Rattle.ssa_check.specs.SignatureTable.{names_of}
+use Rattle.ssa_tables.specs.SignatureTable.{names_of}
 use Rattle.ssa_meaning.specs.declared.step.Given.{Given}
 use Rattle.ssa_meaning.specs.Symbols.{address_in}
 

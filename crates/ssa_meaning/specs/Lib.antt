@@ -1,12 +1,7 @@
 pub mod CaseRun
 pub mod Given
-pub mod Items
 pub mod MemoryChanges
 pub mod Onward
-pub mod OrderDependencies
-pub mod OrderPlacing
-pub mod OrderSelects
-pub mod OrderWaiting
 pub mod Puts
 pub mod Ran
 pub mod Ready

@@ -7,7 +7,7 @@ use Rattle.ssa_ir.specs.Edges.{block_named, edge_number}
 use Rattle.ssa_meaning.specs.declared.ready.Way.{Way}
 use Rattle.ssa_meaning.specs.declared.ready.ReadyBlock.{ReadyBlock}
 use Rattle.ssa_meaning.specs.declared.ready.ReadyFunc.{ReadyFunc}
-use Rattle.ssa_meaning.specs.Items.{AreInFirstOrder}
+use Rattle.block_order.specs.Items.{AreInFirstOrder}
 
 -- the edge to successor j of a block comes to the block of this index, by the edge of this number there
 pub record Arrives (f : Func) (b : Block) (j : ℕ) (w : Way) : Type 0 where

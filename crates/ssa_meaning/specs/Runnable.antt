@@ -6,16 +6,7 @@ use Rattle.ssa_ir.specs.declared.func.Block.{Block}
 use Rattle.ssa_ir.specs.declared.role.Role.{Role}
 use Rattle.ssa_ir.specs.declared.role.Role.TheVariants.{Calls, TakesAddress}
 use Rattle.ssa_ir.specs.Roles.{role}
-
--- no value has this number
-abbrev pub IsApart : ℕ → List Value → Type 0
-IsApart n [] = Unit {0}
-IsApart n (v ∷ values) = (n ≢ v.id.0) × IsApart n values
-
--- no two values have one number
-abbrev pub AreApart : List Value → Type 0
-AreApart [] = Unit {0}
-AreApart (v ∷ values) = IsApart v.id.0 values × AreApart values
+use Rattle.block_order.specs.Apart.{AreApart}
 
 -- whether a value of this role names a symbol
 abbrev pub names_symbol : Role → Bool

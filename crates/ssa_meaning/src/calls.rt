@@ -10,9 +10,9 @@ ghost use Rattle.ssa_ir.specs.Inputs.{inputs_of};
 ghost use Rattle.ssa_ir.specs.Lookups.{sig_of};
 ghost use Rattle.ssa_ir.specs.Run.{generic, run_role, shown_of};
 ghost use Rattle.ssa_meaning.specs.Given.{IsGiven};
-ghost use Rattle.ssa_meaning.specs.Items.{values_at};
+ghost use Rattle.block_order.specs.Items.{values_at};
 ghost use Rattle.ssa_meaning.specs.Ran.{Ran, next_of};
-ghost use Rattle.ssa_meaning.specs.Runnable.{AreApart};
+ghost use Rattle.block_order.specs.Apart.{AreApart};
 ghost use Rattle.ssa_meaning.specs.Running.{room_of, state_of};
 
 use crate::running::Running;
@@ -37,7 +37,8 @@ impl Running {
         requires named { IsSome call.now.sym }
         requires selects { values_at values.now selects.now ≡ by_number (filter (is_select call.now.id) values.now) }
         ensures ran { IfOk result (λ over. Ran
-            (run_role (generic (sig_of given.now.unit.now)) (inputs_of given.now.case.now) values.now call.now Calls (state_of given.now.case.now self.old))
+            (run_role (generic (sig_of given.now.unit.now)) (inputs_of given.now.case.now) values.now call.now Calls
+            (state_of given.now.case.now self.old))
             self.old.calls self.new.calls (next_of over) (state_of given.now.case.now self.new)) }
         ensures room { OnOk result (room_of self.new.words ≡ room_of self.old.words) }
     {

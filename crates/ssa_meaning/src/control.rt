@@ -64,7 +64,8 @@ impl Running {
     // The end of a run that returns.
     fn returned(&self, alloc: Global, func: &Func, block: &Block) -> Result<End, NoMemory>
         ensures { IfOk result (λ end. end ≡ Returned
-            (words_at func.now.sig.results (result_words (words_of self.now.words) (controlling block.now.values block.now.control)))
+            (words_at func.now.sig.results (result_words (words_of self.now.words)
+            (controlling block.now.values block.now.control)))
             (changed (since_of self.now.memory) (memory_of self.now.memory))) }
     {
         let args = arguments_of(block.values.as_slice(), block.control);
@@ -85,7 +86,8 @@ fn along(ready: &ReadyBlock, successor: usize) -> Onward
 
 // The arguments of the control among these values; where there is none, there are none.
 fn arguments_of(values: &[Value], control: Option<ValueId>) -> &[ValueId]
-    ensures { (words : ℕ → ℕ) → words_before_memory words result.now ≡ result_words words (controlling values.now control) }
+    ensures { (words : ℕ → ℕ) → words_before_memory words result.now
+        ≡ result_words words (controlling values.now control) }
 {
     let Some(id) = control else {
         return &[];

@@ -13,26 +13,17 @@ use crate::running::Running;
 use crate::step::Given;
 use crate::symbols::SymbolTable;
 use gossa_base::NoMemory;
-use ssa_check::Checked;
-use ssa_check::signatures::SignatureTable;
 use ssa_ir::{Case, Func, Shown, SsaUnit};
+use ssa_tables::SignatureTable;
 use std::alloc::Global;
 
-/// What the function of a case shows: its calls, each with its arguments and the memory that had changed, and then how it
-/// ends. The case's bound is the most turns that it takes.
+/// What the function of a case shows: its calls, each with its arguments and the memory that had changed, and then how
+/// it ends. The case's bound is the most turns that it takes.
 ///
 /// # Errors
 ///
 /// Want of memory.
-pub fn run_case(alloc: Global, unit: &Checked, case: &Case) -> Result<Shown, NoMemory>
-    requires { case.now.func < length unit.now.funcs }
-    ensures { IfOk result (λ shown. shown ≡ case_shown unit.now case.now) }
-{
-    run_unit_case(alloc, unit.unit(), case)
-}
-
-// The same of a unit that is well formed, which is all that a run needs.
-fn run_unit_case(alloc: Global, unit: &SsaUnit, case: &Case) -> Result<Shown, NoMemory>
+pub fn run_case(alloc: Global, unit: &SsaUnit, case: &Case) -> Result<Shown, NoMemory>
     requires well_formed { WellFormed unit.now }
     requires func { case.now.func < length unit.now.funcs }
     ensures { IfOk result (λ shown. shown ≡ case_shown unit.now case.now) }

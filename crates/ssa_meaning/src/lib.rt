@@ -1,11 +1,11 @@
 //! What an accepted unit shows in a case: the calls, the traps and the returns of its SSA run, exactly.
 //!
-//! Method. A function is made ready once: the first order of each block as indexes into its values, the selects of each call
-//! beside it, and where each edge goes. A run then changes three things in place: a table with a word for each value number,
-//! the memory, and the list of calls that were shown. A turn takes a block: its phis at once, its values in order, its
-//! control; it takes time linear in the block's values, but for the bytes that it loads and stores. Changed bytes are kept
-//! beside the memory with what stood there before, since the case began or the last reply was taken; so neither a call nor
-//! the end copies the memory.
+//! Method. A function is made ready once: the first order of each block as indexes into its values, the selects of each
+//! call beside it, and where each edge goes. A run then changes three things in place: a table with a word for each
+//! value number, the memory, and the list of calls that were shown. A turn takes a block: its phis at once, its values
+//! in order, its control; it takes time linear in the block's values, but for the bytes that it loads and stores.
+//! Changed bytes are kept beside the memory with what stood there before, since the case began or the last reply was
+//! taken; so neither a call nor the end copies the memory.
 //!
 //! ```text
 //! b2: <- b1 b3
@@ -15,8 +15,8 @@
 //! If v9 -> b3 b4                bit 0 of word 9 says where the next turn begins
 //! ```
 //!
-//! [`run_case`] gives exactly the run that `specs/Run.antt` of `ssa_ir` defines. Known limits: the table of words is as long
-//! as the greatest value number of the function.
+//! [`run_case`] gives exactly the run that `specs/Run.antt` of `ssa_ir` defines. Known limits: the table of words is as
+//! long as the greatest value number of the function.
 #![tactic(auto)]
 
 mod calls;
@@ -25,7 +25,6 @@ mod entry;
 pub mod laws;
 mod memory;
 mod operands;
-mod order;
 mod ready;
 mod running;
 mod step;

@@ -47,7 +47,8 @@ impl RunMemory {
 
     /// Writes the low bytes of a word at an address.
     pub(crate) fn store(&mut self, address: u64, word: u64, count: u32) -> Result<(), NoMemory>
-        ensures memory { OnOk result (memory_of self.new ≡ write_bytes (memory_of self.old) address (bytes_of word count)) }
+        ensures memory { OnOk result (memory_of self.new ≡ write_bytes (memory_of self.old) address
+            (bytes_of word count)) }
         ensures since { OnOk result (since_of self.new ≡ since_of self.old) }
     {
         let mut left = word;

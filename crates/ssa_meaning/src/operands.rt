@@ -59,7 +59,8 @@ impl Running {
         types: &[Scalar],
         args: &[ValueId],
     ) -> Result<Words, NoMemory>
-        ensures { IfOk result (λ words. words ≡ words_at types.now (words_before_memory (words_of self.now.words) args.now)) }
+        ensures { IfOk result (λ words. words ≡ words_at types.now
+            (words_before_memory (words_of self.now.words) args.now)) }
     {
         let shown = &args[..args.len().saturating_sub(1)];
         let mut words = Words::new(alloc);

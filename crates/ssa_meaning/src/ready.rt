@@ -5,13 +5,14 @@ ghost use Rattle.std.specs.List.{position_or_len};
 ghost use Rattle.ssa_ir.specs.declared.func.Block.{Block as IrBlock};
 ghost use Rattle.ssa_ir.specs.Edges.{same_block, times_before, place_of_time};
 ghost use Rattle.ssa_ir.specs.WellFormed.{WellFormedFunc};
+ghost use Rattle.ssa_tables.specs.Blocks.{names_of};
 ghost use Rattle.ssa_meaning.specs.Ready.{LeadsTo, IsReadyBlock, IsReady};
-ghost use Rattle.ssa_meaning.specs.Runnable.{AreApart};
+ghost use Rattle.block_order.specs.Apart.{AreApart};
 
-use crate::order::{Item, first_order_of};
+use block_order::{Item, first_order_of};
 use gossa_base::{BlockId, NoMemory};
-use indexmap::IndexSet;
 use ssa_ir::{Block, Func};
+use ssa_tables::BlockTable;
 use std::alloc::Global;
 
 /// Where an edge goes: the index of the block that it comes to, and its number, from 0, among the predecessors of that
@@ -33,36 +34,6 @@ pub struct ReadyBlock {
 #[derive(Drop)]
 pub struct ReadyFunc {
     pub blocks: Vec<ReadyBlock>,
-}
-
-// The names of a function's blocks, in order: the index of a name is found in constant time on average.
-#[derive(Drop)]
-struct BlockTable {
-    names: IndexSet<BlockId>,
-}
-
-impl BlockTable {
-    // The names of the blocks of a function.
-    fn new(alloc: Global, func: &Func) -> Result<BlockTable, NoMemory>
-        requires { WellFormedFunc func.now }
-        ensures { IfOk result (λ table. table.names.keys ≡ map (λ (b : IrBlock). b.id) func.now.blocks) }
-    {
-        let mut names = IndexSet::new(alloc);
-        for block in func.blocks.as_slice() {
-            names.insert(block.id)?;
-        }
-        Ok(BlockTable { names })
-    }
-
-    // The index of the block of a name; how many there are where there is none.
-    fn index(&self, id: BlockId) -> usize
-        ensures { result ≡ position_or_len (λ name. same_block name id) self.now.names.keys }
-    {
-        match self.names.get_index_of(&id) {
-            Some(index) => index,
-            None => self.names.len(),
-        }
-    }
 }
 
 // How often a block stands among the first of these, so many as are asked for.
@@ -97,7 +68,7 @@ fn place_of_time(ids: &[BlockId], id: BlockId, times: usize) -> usize
 
 // The way to a successor of a block, which stands at this place among its successors.
 fn way_to(table: &BlockTable, func: &Func, source: &Block, place: usize, id: BlockId) -> Option<Way>
-    requires table { table.now.names.keys ≡ map (λ (b : IrBlock). b.id) func.now.blocks }
+    requires table { table.now ≡ names_of func.now }
     requires stands { slice_get source.now.succs place ≡ Some id }
     ensures { LeadsTo func.now source.now place result }
 {
@@ -117,7 +88,7 @@ fn ways_of(
     func: &Func,
     source: &Block,
 ) -> Result<Vec<Option<Way>>, NoMemory>
-    requires { table.now.names.keys ≡ map (λ (b : IrBlock). b.id) func.now.blocks }
+    requires { table.now ≡ names_of func.now }
     ensures { IfOk result (λ ways. (j : ℕ) → LeadsTo func.now source.now j (slice_index_or ways.items j None)) }
 {
     let mut ways = Vec::new(alloc);
@@ -134,7 +105,7 @@ fn ready_block(
     func: &Func,
     block: &Block,
 ) -> Result<ReadyBlock, NoMemory>
-    requires table { table.now.names.keys ≡ map (λ (b : IrBlock). b.id) func.now.blocks }
+    requires table { table.now ≡ names_of func.now }
     requires apart { AreApart block.now.values }
     ensures { IfOk result (λ ready. IsReadyBlock func.now block.now ready) }
 {

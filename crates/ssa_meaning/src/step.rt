@@ -11,19 +11,20 @@ ghost use Rattle.ssa_ir.specs.Lookups.{sig_of};
 ghost use Rattle.ssa_ir.specs.Roles.{role};
 ghost use Rattle.ssa_ir.specs.Run.{Form, generic, run_role, run_values, with_word, loaded_word, stored_memory};
 ghost use Rattle.ssa_meaning.specs.Given.{IsGiven};
-ghost use Rattle.ssa_meaning.specs.Items.{AreInFirstOrder, IsItem, item_values, values_at};
+ghost use Rattle.block_order.specs.Items.{AreInFirstOrder, IsItem, item_values, values_at};
 ghost use Rattle.ssa_meaning.specs.Ran.{Ran, next_of};
-ghost use Rattle.ssa_meaning.specs.Runnable.{AreApart, HasItsName, IsRunnable};
+ghost use Rattle.ssa_meaning.specs.Runnable.{HasItsName, IsRunnable};
+ghost use Rattle.block_order.specs.Apart.{AreApart};
 ghost use Rattle.ssa_meaning.specs.Running.{room_of, state_of};
 
 use crate::operands::parameter_word;
-use crate::order::Item;
 use crate::running::Running;
 use crate::symbols::SymbolTable;
 use crate::widths::{element_bytes, kept, type_bytes};
+use block_order::Item;
 use gossa_base::NoMemory;
-use ssa_check::signatures::SignatureTable;
 use ssa_ir::{Block, Case, End, Role, SsaUnit, Value, role_of};
+use ssa_tables::SignatureTable;
 use std::alloc::Global;
 
 /// What stays the same in a run: the unit with the table of its signatures, and the case with the table of its symbols.
@@ -36,7 +37,8 @@ pub struct Given<'a> {
 }
 
 impl Running {
-    /// Runs an item of a block: its value and, where that is a call, the selects. Answers the end, where the run is over.
+    /// Runs an item of a block: its value and, where that is a call, the selects. Answers the end, where the run is
+    /// over.
     pub(crate) fn run_item(
         &mut self,
         alloc: Global,
@@ -48,7 +50,8 @@ impl Running {
         requires runnable { IsRunnable (room_of self.old.words) block.now }
         requires item { IsItem block.now.values item.now }
         ensures ran { IfOk result (λ over. Ran
-            (run_values (generic (sig_of given.now.unit.now)) (inputs_of given.now.case.now) block.now.values (item_values block.now.values item.now) (state_of given.now.case.now self.old))
+            (run_values (generic (sig_of given.now.unit.now)) (inputs_of given.now.case.now) block.now.values
+            (item_values block.now.values item.now) (state_of given.now.case.now self.old))
             self.old.calls self.new.calls (next_of over) (state_of given.now.case.now self.new)) }
         ensures room { OnOk result (room_of self.new.words ≡ room_of self.old.words) }
     {
@@ -68,7 +71,8 @@ impl Running {
         requires runnable { IsRunnable (room_of self.old.words) block.now }
         requires items { AreInFirstOrder block.now.values items.now }
         ensures ran { IfOk result (λ over. Ran
-            (run_values (generic (sig_of given.now.unit.now)) (inputs_of given.now.case.now) block.now.values (first_order block.now.values) (state_of given.now.case.now self.old))
+            (run_values (generic (sig_of given.now.unit.now)) (inputs_of given.now.case.now) block.now.values
+            (first_order block.now.values) (state_of given.now.case.now self.old))
             self.old.calls self.new.calls (next_of over) (state_of given.now.case.now self.new)) }
         ensures room { OnOk result (room_of self.new.words ≡ room_of self.old.words) }
     {
@@ -96,7 +100,8 @@ impl Running {
         requires named { HasItsName value.now }
         requires selects { values_at values.now selects.now ≡ followers_of values.now value.now value.now.op }
         ensures ran { IfOk result (λ over. Ran
-            (run_role (generic (sig_of given.now.unit.now)) (inputs_of given.now.case.now) values.now value.now (role value.now.op) (state_of given.now.case.now self.old))
+            (run_role (generic (sig_of given.now.unit.now)) (inputs_of given.now.case.now) values.now value.now
+            (role value.now.op) (state_of given.now.case.now self.old))
             self.old.calls self.new.calls (next_of over) (state_of given.now.case.now self.new)) }
         ensures room { OnOk result (room_of self.new.words ≡ room_of self.old.words) }
     {
@@ -153,7 +158,8 @@ impl Running {
     // Makes a store.
     fn store(&mut self, value: &Value) -> Result<(), NoMemory>
         requires { role value.now.op ≡ Stores }
-        ensures state { OnOk result ((c : IrCase) → state_of c self.new ≡ record (state_of c self.old) { memory = stored_memory value.now (state_of c self.old) }) }
+        ensures state { OnOk result ((c : IrCase) → state_of c self.new
+            ≡ record (state_of c self.old) { memory = stored_memory value.now (state_of c self.old) }) }
         ensures calls { OnOk result (self.new.calls ≡ self.old.calls) }
         ensures room { OnOk result (room_of self.new.words ≡ room_of self.old.words) }
     {

@@ -42,7 +42,10 @@ impl SymbolTable {
 
     // The address that a line gives a symbol: it counts where no line before gave one.
     fn put(&mut self, name: &Name, word: u64) -> Result<(), NoMemory>
-        ensures { OnOk result ((other : List ℕ) (rest : ℕ) → unwrap_or (get (pointwise nat_eq) self.new.words other) rest ≡ unwrap_or (get (pointwise nat_eq) self.old.words other) (if pointwise nat_eq name.now other then word else rest)) }
+        ensures { OnOk result ((other : List ℕ) (rest : ℕ)
+            → unwrap_or (get (pointwise nat_eq) self.new.words other) rest
+            ≡ unwrap_or (get (pointwise nat_eq) self.old.words other)
+            (if pointwise nat_eq name.now other then word else rest)) }
     {
         if self.words.contains_key(name) {
             return Ok(());

@@ -40,7 +40,8 @@ impl Running {
         requires begun { state_of given.now.case.now self.old ≡ begun (inputs_of given.now.case.now) }
         requires quiet { self.old.calls ≡ [] }
         ensures { IfOk result (λ end. (record { calls = self.new.calls; end = end })
-            ≡ run (generic (sig_of given.now.unit.now)) (inputs_of given.now.case.now) func.now given.now.case.now.bound) }
+            ≡ run (generic (sig_of given.now.unit.now)) (inputs_of given.now.case.now) func.now
+            given.now.case.now.bound) }
     {
         if func.blocks.is_empty() {
             return Ok(End::Stuck);
@@ -74,8 +75,10 @@ impl Running {
         requires ready { IsReady func.now ready.now }
         requires room { All (λ (v : IrValue). v.id.0 < room_of self.old.words) (values_of func.now) }
         requires within { index < length func.now.blocks }
-        ensures turned { IfOk result (λ onward. (b : IrBlock) → slice_get func.now.blocks index ≡ Some b → Turned func.now
-            (λ go. run_block (generic (sig_of given.now.unit.now)) (inputs_of given.now.case.now) func.now go b edge (state_of given.now.case.now self.old))
+        ensures turned { IfOk result (λ onward. (b : IrBlock) → slice_get func.now.blocks index ≡ Some b
+            → Turned func.now
+            (λ go. run_block (generic (sig_of given.now.unit.now)) (inputs_of given.now.case.now) func.now go b edge
+            (state_of given.now.case.now self.old))
             self.old.calls self.new.calls onward (state_of given.now.case.now self.new)) }
         ensures within { IfOk result (λ onward. IsWithin func.now onward) }
         ensures room { OnOk result (room_of self.new.words ≡ room_of self.old.words) }
@@ -98,7 +101,8 @@ impl Running {
         requires runnable { IsRunnable (room_of self.old.words) block.now }
         requires ready { IsReadyBlock func.now block.now ready.now }
         ensures turned { IfOk result (λ onward. Turned func.now
-            (λ go. run_block (generic (sig_of given.now.unit.now)) (inputs_of given.now.case.now) func.now go block.now edge (state_of given.now.case.now self.old))
+            (λ go. run_block (generic (sig_of given.now.unit.now)) (inputs_of given.now.case.now) func.now go block.now
+            edge (state_of given.now.case.now self.old))
             self.old.calls self.new.calls onward (state_of given.now.case.now self.new)) }
         ensures within { IfOk result (λ onward. IsWithin func.now onward) }
         ensures room { OnOk result (room_of self.new.words ≡ room_of self.old.words) }

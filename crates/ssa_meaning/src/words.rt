@@ -1,19 +1,21 @@
 // A word for each value number, changed in place.
 
-ghost use Rattle.std.specs.Prelude.{◌≡◌, ◌<◌, ◌≤◌, ◌^◌, ℕ, Some, false, filter, map, slice_get, slice_index_or, IfOk, OnOk};
+ghost use Rattle.std.specs.Prelude.{◌≡◌, ◌<◌, ◌≤◌, ◌^◌, ℕ, Some, false, filter, map, slice_get, slice_index_or, IfOk};
+ghost use Rattle.std.specs.Prelude.{OnOk};
 ghost use Rattle.std.specs.List.{All};
 ghost use Rattle.std.specs.Option.{option_to_list};
 ghost use Rattle.gossa_base.specs.declared.ids.ValueId.{ValueId as IrValueId};
 ghost use Rattle.ssa_ir.specs.declared.func.Value.{Value as IrValue};
 ghost use Rattle.ssa_ir.specs.Calls.{answered};
-ghost use Rattle.ssa_ir.specs.FirstOrder.{is_phi as is_phi_op, selects, by_number};
+ghost use Rattle.ssa_ir.specs.FirstOrder.{selects, by_number};
+ghost use Rattle.ssa_ir.specs.OpKinds.{is_phi as is_phi_op};
 ghost use Rattle.ssa_ir.specs.Inputs.{answer_of};
 ghost use Rattle.ssa_ir.specs.Lookups.{values_of};
 ghost use Rattle.ssa_ir.specs.Phis.{entered};
 ghost use Rattle.ssa_ir.specs.Run.{put};
-ghost use Rattle.ssa_meaning.specs.Items.{values_at};
+ghost use Rattle.block_order.specs.Items.{values_at};
 ghost use Rattle.ssa_meaning.specs.Puts.{puts, put_all, phi_pair, select_word_of};
-ghost use Rattle.ssa_meaning.specs.Runnable.{AreApart};
+ghost use Rattle.block_order.specs.Apart.{AreApart};
 ghost use Rattle.ssa_meaning.specs.Running.{words_of, room_of};
 
 use crate::widths::kept;
@@ -26,13 +28,6 @@ use std::alloc::Global;
 pub struct WordTable {
     words: Vec<u64>,
     entering: Vec<(ValueId, u64)>,
-}
-
-// Whether an op is a phi.
-fn is_phi(op: Op) -> bool
-    ensures { result ≡ is_phi_op op }
-{
-    matches!(op, Op::Phi)
 }
 
 // The argument of a phi by an edge.
@@ -119,7 +114,8 @@ impl WordTable {
     pub(crate) fn enter(&mut self, values: &[Value], edge: usize) -> Result<(), NoMemory>
         requires apart { AreApart values.now }
         requires below { All (λ (v : IrValue). v.id.0 < room_of self.old) values.now }
-        ensures words { OnOk result ((n : ℕ) → words_of self.new n ≡ entered values.now (Some edge) (words_of self.old) n) }
+        ensures words { OnOk result ((n : ℕ) → words_of self.new n
+            ≡ entered values.now (Some edge) (words_of self.old) n) }
         ensures room { OnOk result (room_of self.new ≡ room_of self.old) }
     {
         self.take_sources(values, edge)?;
@@ -129,12 +125,13 @@ impl WordTable {
 
     // Notes the word that each phi among these values takes.
     fn take_sources(&mut self, values: &[Value], edge: usize) -> Result<(), NoMemory>
-        ensures taken { OnOk result (self.new.entering.items ≡ map (phi_pair edge (words_of self.old)) (filter (λ v. is_phi_op v.op) values.now)) }
+        ensures taken { OnOk result (self.new.entering.items ≡ map (phi_pair edge (words_of self.old))
+            (filter (λ v. is_phi_op v.op) values.now)) }
         ensures words { OnOk result (self.new.words.items ≡ self.old.words.items) }
     {
         self.entering.clear();
         for value in values {
-            if is_phi(value.op) {
+            if value.op.is_phi() {
                 let word = self.word(source(value, edge));
                 self.entering.push((value.id, word))?;
             }
@@ -157,7 +154,9 @@ impl WordTable {
     // Gives the select at this index its word of a reply.
     fn answer_at(&mut self, values: &[Value], index: usize, reply: &Reply)
         requires { All (λ (v : IrValue). v.id.0 < room_of self.old) values.now }
-        ensures words { (n : ℕ) → words_of self.new n ≡ puts (select_word_of (answer_of reply.now)) (option_to_list (slice_get values.now index)) (words_of self.old) n }
+        ensures words { (n : ℕ) → words_of self.new n
+            ≡ puts (select_word_of (answer_of reply.now)) (option_to_list (slice_get values.now index))
+            (words_of self.old) n }
         ensures room { room_of self.new ≡ room_of self.old }
     {
         if let Some(value) = values.get(index) {
@@ -176,7 +175,8 @@ impl WordTable {
         requires apart { AreApart values.now }
         requires below { All (λ (v : IrValue). v.id.0 < room_of self.old) values.now }
         requires selects { values_at values.now indexes.now ≡ by_number (filter (selects call) values.now) }
-        ensures words { (n : ℕ) → words_of self.new n ≡ answered false values.now call (answer_of reply.now) (words_of self.old) n }
+        ensures words { (n : ℕ) → words_of self.new n
+            ≡ answered false values.now call (answer_of reply.now) (words_of self.old) n }
         ensures room { room_of self.new ≡ room_of self.old }
     {
         for index in indexes {

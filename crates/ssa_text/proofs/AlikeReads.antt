@@ -1,17 +1,22 @@
 -- What was read from two texts is alike where only the numbers of lines may differ, and stays so behind the same form.
-use Rattle.std.proofs.Common.{◌≡◌, ℕ, not, ◌||◌, List, [], ◌∷◌, ◌++◌, map, is_some, Option, None, Some, refl, sym, ap, subst, ◌∙◌}
+use Rattle.std.proofs.Common.{◌≡◌, ℕ, not, ◌||◌, List, [], ◌∷◌, ◌++◌, map, is_some, Option, None, Some, refl, sym, ap}
+use Rattle.std.proofs.Common.{subst, ◌∙◌}
 use Rattle.std.specs.List.{list_any, find}
 use Rattle.std.specs.Option.{option_map, option_or}
 use Rattle.std.proofs.lemmas.List.{map-append}
 use Rattle.ssa_lines.specs.declared.forms.Spelled.TheVariants.{Fits, TooLarge as NotSpelled}
-use Rattle.ssa_lines.specs.declared.forms.ValueLine.TheVariants.{Known, UnknownOp as NoSuchOp, TooLarge as ValueTooLarge}
+use Rattle.ssa_lines.specs.declared.forms.ValueLine.TheVariants.{Known, UnknownOp as NoSuchOp}
+use Rattle.ssa_lines.specs.declared.forms.ValueLine.TheVariants.{TooLarge as ValueTooLarge}
 use Rattle.ssa_lines.specs.declared.forms.Form.{Form}
-use Rattle.ssa_lines.specs.declared.forms.Form.TheVariants.{Blank, Case, Sig as SigForm, Func as FuncForm, Block as BlockForm, Value as ValueForm, Control as ControlForm, Bad}
+use Rattle.ssa_lines.specs.declared.forms.Form.TheVariants.{Blank, Case, Sig as SigForm, Func as FuncForm}
+use Rattle.ssa_lines.specs.declared.forms.Form.TheVariants.{Block as BlockForm, Value as ValueForm}
+use Rattle.ssa_lines.specs.declared.forms.Form.TheVariants.{Control as ControlForm, Bad}
 use Rattle.ssa_text.specs.declared.partial.OpenFunc.{OpenFunc}
 use Rattle.ssa_text.specs.declared.partial.Named.{Named}
 use Rattle.ssa_text.specs.declared.partial.Named.TheVariants.{OfValue, OfBlock}
 use Rattle.ssa_text.specs.declared.partial.Mention.{Mention}
-use Rattle.ssa_text.specs.Reading.{Read, read_of, mention, mentioned, has_named, unknown_in, unknown_line, control_mention, behind}
+use Rattle.ssa_text.specs.Reading.{Read, read_of, mention, mentioned, has_named, unknown_in, unknown_line}
+use Rattle.ssa_text.specs.Reading.{control_mention, behind}
 use Rattle.ssa_text.proofs.FormTests.{Passes}
 use Rattle.ssa_text.proofs.ListLemmas.{found_by_test}
 use Rattle.ssa_lines.proofs.TableLemmas.{list_any_map}

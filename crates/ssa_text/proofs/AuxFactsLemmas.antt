@@ -1,5 +1,6 @@
 -- What is known of the number, the symbol and the element type that the line of a value spells, by its op's row.
-use Rattle.std.proofs.Common.{◌≡◌, ℕ, suc, ◌-◌, ◌<◌, ◌^◌, inl, inr, pos, negsuc, Bool, true, false, nat_lt, nat_eq, cond, List, codes, drop, Option, None, Some, IfSome, if◌then◌else◌, refl, arith}
+use Rattle.std.proofs.Common.{◌≡◌, ℕ, suc, ◌-◌, ◌<◌, ◌^◌, inl, inr, pos, negsuc, Bool, true, false, nat_lt, nat_eq}
+use Rattle.std.proofs.Common.{cond, List, codes, drop, Option, None, Some, IfSome, if◌then◌else◌, refl, arith}
 use Rattle.std.specs.Prelude.{FitsSigned}
 use Rattle.std.specs.Int.{w64}
 use Rattle.std.specs.List.{starts_with}
@@ -20,7 +21,9 @@ use Rattle.ssa_lines.specs.declared.forms.Bracket.TheVariants.{Number as Bracket
 use Rattle.ssa_lines.specs.Headers.{is_name}
 use Rattle.ssa_lines.specs.Types.{scalar_of}
 use Rattle.ssa_lines.specs.Words.{without_last}
-use Rattle.ssa_lines.specs.ValueForms.{Extras, checked_name, call_name, name_inside, dropped, word_of_truth, is_arg, is_static_call, aux_of_number, aux_of_truth, call_number, aux_of_name, aux_of_elem, aux_of_mark, aux_of_none, aux_by}
+use Rattle.ssa_lines.specs.ValueForms.{Extras, checked_name, call_name, name_inside, dropped, word_of_truth, is_arg}
+use Rattle.ssa_lines.specs.ValueForms.{is_static_call, aux_of_number, aux_of_truth, call_number, aux_of_name}
+use Rattle.ssa_lines.specs.ValueForms.{aux_of_elem, aux_of_mark, aux_of_none, aux_by}
 use Rattle.ssa_text.proofs.HeaderFactsLemmas.{name_tested}
 use Rattle.ssa_lines.proofs.GrammarLemmas.{then_shown, then_any, either_shown}
 

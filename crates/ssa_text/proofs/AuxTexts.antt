@@ -1,5 +1,6 @@
 -- The brackets and braces of a value's line are read as what the value has there.
-use Rattle.std.proofs.Common.{◌≡◌, ℕ, nat_eq, Bool, true, false, true≢false, ⊎_elim, cond, List, [], ◌∷◌, ◌++◌, append-nil, take, drop, codes, Option, None, Some, refl, sym, ap, subst, ◌∙◌, arith}
+use Rattle.std.proofs.Common.{◌≡◌, ℕ, nat_eq, Bool, true, false, true≢false, ⊎_elim, cond, List, [], ◌∷◌, ◌++◌}
+use Rattle.std.proofs.Common.{append-nil, take, drop, codes, Option, None, Some, refl, sym, ap, subst, ◌∙◌, arith}
 use Rattle.std.specs.Prelude.{ℤ, pos, FitsSigned, IfSome}
 use Rattle.std.specs.Fmt.{signed_decimal}
 use Rattle.std.specs.Int.{w64}
@@ -23,14 +24,18 @@ use Rattle.ssa_lines.specs.declared.forms.Bracket.TheVariants.{Number as Bracket
 use Rattle.ssa_lines.specs.declared.numbers.Integer.{Integer}
 use Rattle.ssa_lines.specs.declared.numbers.Integer.TheVariants.{Word}
 use Rattle.ssa_lines.specs.Steps.{◌>>=◌}
-use Rattle.ssa_lines.specs.ValueForms.{bracket_inside, call_name, checked_name, name_inside, Extras, extras_of, extras_by, extras_ahead, then_brace, then_bracket, only_number, word_of_truth, aux_by}
+use Rattle.ssa_lines.specs.ValueForms.{bracket_inside, call_name, checked_name, name_inside, Extras, extras_of}
+use Rattle.ssa_lines.specs.ValueForms.{extras_by, extras_ahead, then_brace, then_bracket, only_number, word_of_truth}
+use Rattle.ssa_lines.specs.ValueForms.{aux_by}
 use Rattle.ssa_lines.specs.Words.{words_of, opens}
 use Rattle.ssa_lines.proofs.WordLemmas.{EndsWord, space_in_front}
 use Rattle.ssa_text.specs.Text.{bool_word, brackets_text, braces_text}
 use Rattle.ssa_lines.proofs.IntegerTexts.{integer_read, signed_is_word}
 use Rattle.ssa_lines.proofs.LineBytes.{IsPlainWord, plain_word_in_front}
 use Rattle.ssa_text.proofs.TypeTexts.{scalar_read, scalar_is_word}
-use Rattle.ssa_lines.proofs.WordTexts.{is_short_word, short_word, longer_word, IsPlainText, text_of_word, known_text, text_append, between_read, between_is_word, name_bytes, name_is_word, is_name-name}
+use Rattle.ssa_lines.proofs.WordTexts.{is_short_word, short_word, longer_word, IsPlainText, text_of_word, known_text}
+use Rattle.ssa_lines.proofs.WordTexts.{text_append, between_read, between_is_word, name_bytes, name_is_word}
+use Rattle.ssa_lines.proofs.WordTexts.{is_name-name}
 
 -- a name does not begin with AuxCall{, since it has no brace
 no_call : (name : List ℕ) → list_all is_name_byte name ≡ true → starts_with nat_eq name (codes "AuxCall{") ≡ false

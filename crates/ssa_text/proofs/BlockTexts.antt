@@ -1,14 +1,17 @@
 -- The printed lines of blocks spell what was printed: a block's beginning, and its end.
-use Rattle.std.proofs.Common.{◌≡◌, ℕ, ◌+◌, ◌*◌, ◌≤◌, IfSome, List, [], ◌∷◌, ◌++◌, length, map, codes, Option, None, Some, All, refl, ap, subst, ◌∙◌, arith, append_assoc}
+use Rattle.std.proofs.Common.{◌≡◌, ℕ, ◌+◌, ◌*◌, ◌≤◌, IfSome, List, [], ◌∷◌, ◌++◌, length, map, codes, Option, None}
+use Rattle.std.proofs.Common.{Some, All, refl, ap, subst, ◌∙◌, arith, append_assoc}
 use Rattle.std.proofs.lemmas.List.{length-append}
 use Rattle.std.proofs.lemmas.List.Elements.{All-head, All-tail, All-from_recursion}
 use Rattle.gossa_base.specs.declared.ids.ValueId.{ValueId}
 use Rattle.gossa_base.specs.declared.ids.BlockId.{BlockId}
 use Rattle.gossa_base.specs.Texts.{led, value_text, block_text}
+use Rattle.ssa_ir.specs.declared.limits.TheConstants.{MAX_ARGS, MAX_LINE_BYTES}
 use Rattle.ssa_ir.specs.declared.func.Kind.{Kind}
 use Rattle.ssa_ir.specs.declared.func.Kind.TheVariants.{Plain, If, Ret, Exit, Cond, Bit}
 use Rattle.ssa_ir.specs.WellFormed.{IsNumber, HasItsSuccessors, HasItsControl}
-use Rattle.ssa_lines.specs.Forms.{form_of, some_blocks, preds_of, blocks_of, block_of, block_line, block_or_value, control_named, control_of, if_of, leaving_end, control_or_other}
+use Rattle.ssa_lines.specs.Forms.{form_of, some_blocks, preds_of, blocks_of, block_of, block_line, block_or_value}
+use Rattle.ssa_lines.specs.Forms.{control_named, control_of, if_of, leaving_end, control_or_other}
 use Rattle.ssa_lines.specs.NumberWords.{bid, number_word}
 use Rattle.ssa_lines.specs.Steps.{◌>>=◌}
 use Rattle.ssa_lines.specs.Words.{words_of}
@@ -22,9 +25,13 @@ use Rattle.ssa_lines.specs.declared.forms.Form.TheVariants.{Block as BlockForm, 
 use Rattle.ssa_lines.proofs.WordLemmas.{EndsWord, space_in_front, without_last_of}
 use Rattle.ssa_text.specs.Text.{preds_text, end_text}
 use Rattle.ssa_lines.proofs.FormFacts.{IsValueNumber, IsTextBlock, BlockFacts, ControlFacts, Spells}
-use Rattle.ssa_lines.proofs.LineBytes.{AllPlain, AllPlain-nil, AllPlain-from_test, AllPlain-append, IsPlainWord, plain_word_from_tests, plain_word_append, plain_word_in_front, words_of-front_led, spaced, words_of-spaced, AllPlain-spaced, length-spaced}
+use Rattle.ssa_lines.proofs.LineBytes.{AllPlain, AllPlain-nil, AllPlain-from_test, AllPlain-append, IsPlainWord}
+use Rattle.ssa_lines.proofs.LineBytes.{plain_word_from_tests, plain_word_append, plain_word_in_front}
+use Rattle.ssa_lines.proofs.LineBytes.{words_of-front_led, spaced, words_of-spaced, AllPlain-spaced, length-spaced}
 use Rattle.ssa_lines.proofs.WordTexts.{spells_text}
-use Rattle.ssa_lines.proofs.NumberTexts.{value_is_word, block_is_word, text_block_is_word, number_word-value, number_word-block, number_word-text_block, blocks_are_words, AllPlain-blocks, length-blocks, block_numbers, numbers_ahead-blocks, blocks_of-blocks}
+use Rattle.ssa_lines.proofs.NumberTexts.{value_is_word, block_is_word, text_block_is_word, number_word-value}
+use Rattle.ssa_lines.proofs.NumberTexts.{number_word-block, number_word-text_block, blocks_are_words, AllPlain-blocks}
+use Rattle.ssa_lines.proofs.NumberTexts.{length-blocks, block_numbers, numbers_ahead-blocks, blocks_of-blocks}
 
 -- the beginning of a block
 
@@ -80,7 +87,7 @@ block_is_read b h =
     ∙ ap (λ preds. Some (block_of (NumberFits b.n) preds)) (blocks_of-blocks b.preds h.preds)
 
 -- the line of a block's beginning reads back
-pub spells_block : (b : BlockLine) → BlockFacts b → length b.preds ≤ 380 →
+pub spells_block : (b : BlockLine) → BlockFacts b → length b.preds ≤ MAX_ARGS →
     Spells (block_text (bid b.n) ++ (codes ":" ++ preds_text b.preds)) (BlockForm (Fits b))
 spells_block b h few =
     let label : List ℕ = label_of b.n in
@@ -92,7 +99,7 @@ spells_block b h few =
     ∙ ap (λ line. block_or_value line (label ∷ words)) (block_is_read b h)
     in
     let plain = AllPlain-append label (preds_text b.preds) is_label.plain (AllPlain-preds b.preds h.preds) in
-    let short : length (label ++ preds_text b.preds) ≤ 4096 =
+    let short : length (label ++ preds_text b.preds) ≤ MAX_LINE_BYTES =
     omega (arith, few, length-append label (preds_text b.preds), is_label.short, length-preds b.preds h.preds)
     in
     let joined = append_assoc (block_text (bid b.n)) (codes ":") (preds_text b.preds) in

@@ -5,7 +5,8 @@ use Rattle.ssa_lines.specs.Words.{words_of}
 use Rattle.ssa_lines.specs.declared.forms.Form.{Form}
 use Rattle.ssa_lines.specs.declared.refusal.TextRefusal.{TextRefusal}
 use Rattle.ssa_lines.specs.ReadsAs.{RefusesAs}
-use Rattle.ssa_text.specs.Reading.{Read, fault_of, in_place, is_twice, behind, then_read, form_or_fault, checked_form, read_line}
+use Rattle.ssa_text.specs.Reading.{Read, fault_of, in_place, is_twice, behind, then_read, form_or_fault, checked_form}
+use Rattle.ssa_text.specs.Reading.{read_line}
 use Rattle.ssa_lines.proofs.RefusalLemmas.{refuses_so}
 use Rattle.ssa_text.proofs.FormTests.{Passes, passes, form_has_no_fault}
 
@@ -15,7 +16,8 @@ passed_on : (fault : Option TextRefusal) (form : Form) (next : Read) (refusal : 
 passed_on (Some fault) form next refusal e = let same : fault ≡ refusal = cc in ap Err same
 passed_on None form next refusal e = cc
 
-no_fault : (fault : Option TextRefusal) (form given : Form) → form_or_fault fault form ≡ Ok given → (fault ≡ None) × (given ≡ form)
+no_fault : (fault : Option TextRefusal) (form given : Form) → form_or_fault fault form ≡ Ok given
+    → (fault ≡ None) × (given ≡ form)
 no_fault (Some fault) form given e = cc
 no_fault None form given e = (refl, cc)
 

@@ -1,5 +1,6 @@
 -- Each line with a form has the facts of that form.
-use Rattle.std.proofs.Common.{◌≡◌, ℕ, Bool, true, false, ◌&&◌, nat_eq, codes, List, [], ◌∷◌, length, All, Option, None, Some, IfSome, if◌then◌else◌, refl}
+use Rattle.std.proofs.Common.{◌≡◌, ℕ, Bool, true, false, ◌&&◌, nat_eq, codes, List, [], ◌∷◌, length, All, Option, None}
+use Rattle.std.proofs.Common.{Some, IfSome, if◌then◌else◌, refl}
 use Rattle.std.specs.List.{starts_with, list_all}
 use Rattle.std.proofs.lemmas.List.Elements.{All-nil, All-cons}
 use Rattle.gossa_base.specs.declared.ids.ValueId.{ValueId}
@@ -18,8 +19,12 @@ use Rattle.ssa_lines.specs.declared.forms.ControlLine.{ControlLine}
 use Rattle.ssa_lines.specs.declared.forms.ValueLine.{ValueLine}
 use Rattle.ssa_lines.specs.declared.forms.ValueLine.TheVariants.{Known, UnknownOp, TooLarge as ValueTooLarge}
 use Rattle.ssa_lines.specs.declared.forms.Form.{Form}
-use Rattle.ssa_lines.specs.declared.forms.Form.TheVariants.{Blank, Case, Sig as SigForm, Func as FuncForm, Block as BlockForm, Value as ValueForm, Control as ControlForm}
-use Rattle.ssa_lines.specs.Forms.{is_left_arrow, is_right_arrow, some_blocks, preds_of, blocks_of, block_of, block_line, control_named, control_of, plain_end, if_of, if_end, leaving_end, control_line, or_bad, block_or_value, control_or_other, form_of}
+use Rattle.ssa_lines.specs.declared.forms.Form.TheVariants.{Blank, Case, Sig as SigForm, Func as FuncForm}
+use Rattle.ssa_lines.specs.declared.forms.Form.TheVariants.{Block as BlockForm, Value as ValueForm}
+use Rattle.ssa_lines.specs.declared.forms.Form.TheVariants.{Control as ControlForm}
+use Rattle.ssa_lines.specs.Forms.{is_left_arrow, is_right_arrow, some_blocks, preds_of, blocks_of, block_of, block_line}
+use Rattle.ssa_lines.specs.Forms.{control_named, control_of, plain_end, if_of, if_end, leaving_end, control_line}
+use Rattle.ssa_lines.specs.Forms.{or_bad, block_or_value, control_or_other, form_of}
 use Rattle.ssa_lines.specs.Headers.{signature_of}
 use Rattle.ssa_lines.specs.NumberWords.{number_word, numbers_ahead}
 use Rattle.ssa_lines.specs.Steps.{only_where}

@@ -1,6 +1,8 @@
 -- What a line without a fault passes, test by test, and that what passes them has no fault.
-use Rattle.std.proofs.Common.{◌≡◌, ℕ, Bool, true, false, not, ◌&&◌, ◌||◌, List, length, nat_lt, Option, None, Some, if◌then◌else◌, refl, ◌∙◌}
+use Rattle.std.proofs.Common.{◌≡◌, ℕ, Bool, true, false, not, ◌&&◌, ◌||◌, List, length, nat_lt, Option, None, Some}
+use Rattle.std.proofs.Common.{if◌then◌else◌, refl, ◌∙◌}
 use Rattle.std.proofs.lemmas.Bool.{le-ltb}
+use Rattle.ssa_ir.specs.declared.limits.TheConstants.{MAX_LINE_BYTES}
 use Rattle.ssa_lines.specs.Forms.{form_of}
 use Rattle.ssa_lines.specs.Lines.{is_allowed}
 use Rattle.ssa_lines.specs.Words.{words_of}
@@ -8,8 +10,10 @@ use Rattle.ssa_lines.specs.declared.forms.Form.{Form}
 use Rattle.ssa_lines.specs.declared.refusal.LimitKind.{LimitKind}
 use Rattle.ssa_lines.specs.declared.refusal.LimitKind.TheVariants.{LineBytes}
 use Rattle.ssa_lines.specs.declared.refusal.TextRefusal.{TextRefusal}
-use Rattle.ssa_lines.specs.declared.refusal.TextRefusal.TheVariants.{BadByte, BadLine, UnknownOp, NumberTooLarge, Duplicate, Limit}
-use Rattle.ssa_text.specs.Reading.{Read, in_place, leaves_open, is_unknown, is_too_large, is_twice, limit_passed, limit_of, fault_of_form, fault_of}
+use Rattle.ssa_lines.specs.declared.refusal.TextRefusal.TheVariants.{BadByte, BadLine, UnknownOp, NumberTooLarge}
+use Rattle.ssa_lines.specs.declared.refusal.TextRefusal.TheVariants.{Duplicate, Limit}
+use Rattle.ssa_text.specs.Reading.{Read, in_place, leaves_open, is_unknown, is_too_large, is_twice, limit_passed}
+use Rattle.ssa_text.specs.Reading.{limit_of, fault_of_form, fault_of}
 use Rattle.ssa_lines.proofs.FormFacts.{Spells}
 
 -- the tests of a form, by what they answer, and what is passed of the limits
@@ -80,21 +84,21 @@ pub form_has_no_fault : (r : Read) (line : ℕ) (last : Bool) (bytes : List ℕ)
     fault_of_form r line last (form_of (words_of bytes)) ≡ None
 form_has_no_fault r line last bytes h =
     let fault : Option TextRefusal = fault_of_form r line last (form_of (words_of bytes)) in
-    within line (nat_lt 4096 (length bytes)) (is_allowed bytes) fault h
+    within line (nat_lt MAX_LINE_BYTES (length bytes)) (is_allowed bytes) fault h
 
 -- a line without a fault has none where other lines stand behind it
 pub none_with_more : (r : Read) (line : ℕ) (last : Bool) (bytes : List ℕ) → fault_of r line last bytes ≡ None →
     fault_of r line false bytes ≡ None
 none_with_more r line last bytes h =
     let form : Form = form_of (words_of bytes) in
-    with_other line (nat_lt 4096 (length bytes)) (is_allowed bytes) (fault_of_form r line last form)
+    with_other line (nat_lt MAX_LINE_BYTES (length bytes)) (is_allowed bytes) (fault_of_form r line last form)
     (fault_of_form r line false form) (λ e. no_form_fault r line false form (passes r line last form e).0 refl) h
 
 -- a line that spells a form that passes has no fault
 pub line_has_no_fault : (r : Read) (line : ℕ) (last : Bool) (form : Form) (bytes : List ℕ) →
     Spells bytes form → Passes r form → (last && leaves_open r form) ≡ false → fault_of r line last bytes ≡ None
 line_has_no_fault r line last form bytes spelled h e =
-    let short : nat_lt 4096 (length bytes) ≡ false = le-ltb 4096 (length bytes) spelled.short in
+    let short : nat_lt MAX_LINE_BYTES (length bytes) ≡ false = le-ltb MAX_LINE_BYTES (length bytes) spelled.short in
     (λ i. if short i then Some (Limit LineBytes line)
     else if not (spelled.allowed i) then Some (BadByte line)
     else fault_of_form r line last (spelled.form_is i))

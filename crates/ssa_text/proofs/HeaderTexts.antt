@@ -1,10 +1,13 @@
 -- The lines of signatures and of functions' beginnings are read as what they were printed from.
-use Rattle.std.proofs.Common.{◌≡◌, ℕ, ◌+◌, ◌*◌, true, false, true≢false, not, ◌&&◌, cond, List, [], ◌∷◌, ◌++◌, append_assoc, append-nil, length-append, length, take, drop, codes, Option, Some, refl, sym, ap, subst, ◌∙◌, arith}
+use Rattle.std.proofs.Common.{◌≡◌, ℕ, ◌+◌, ◌*◌, true, false, true≢false, not, ◌&&◌, cond, List, [], ◌∷◌, ◌++◌}
+use Rattle.std.proofs.Common.{append_assoc, append-nil, length-append, length, take, drop, codes, Option, Some, refl}
+use Rattle.std.proofs.Common.{sym, ap, subst, ◌∙◌, arith}
 use Rattle.std.specs.List.{list_all, list_any, position_or_len, before_first, after_first}
 use Rattle.std.proofs.lemmas.Bool.{and_parts, or_right, ne_eqb}
 use Rattle.std.proofs.lemmas.List.{take_at, drop_at}
 use Rattle.std.proofs.lemmas.List.Elements.{All-append}
 use Rattle.std.proofs.lemmas.List.Folds.{list_any-append}
+use Rattle.ssa_ir.specs.declared.limits.TheConstants.{MAX_LINE_BYTES}
 use Rattle.ssa_ir.specs.declared.types.Scalar.{Scalar}
 use Rattle.ssa_ir.specs.declared.types.Sig.{Sig}
 use Rattle.ssa_ir.specs.Limits.{SigWithinLimits}
@@ -12,14 +15,17 @@ use Rattle.ssa_ir.specs.Names.{IsName, is_name_byte}
 use Rattle.ssa_ir.specs.Texts.{group_text, results_text, sig_text}
 use Rattle.ssa_lines.specs.declared.forms.Form.TheVariants.{Sig as SigForm, Func as FuncForm}
 use Rattle.ssa_lines.specs.Forms.{or_bad}
-use Rattle.ssa_lines.specs.Headers.{is_name, is_open, group_ahead, nothing_behind, results_of, name_before, signature_of}
+use Rattle.ssa_lines.specs.Headers.{is_name, is_open, group_ahead, nothing_behind, results_of, name_before}
+use Rattle.ssa_lines.specs.Headers.{signature_of}
 use Rattle.ssa_lines.specs.Lines.{is_space}
 use Rattle.ssa_lines.specs.Steps.{◌>>=◌, only_where}
 use Rattle.ssa_lines.specs.Words.{words_of}
 use Rattle.ssa_lines.proofs.WordLemmas.{HasNoSpace, EndsWord, space_in_front}
 use Rattle.ssa_lines.proofs.FormFacts.{Spells}
-use Rattle.ssa_text.proofs.TypeTexts.{first_word, more_words, first_is_word, inside_text, last_inside, more_inside, group_words, group_read}
-use Rattle.ssa_lines.proofs.WordTexts.{short_word, IsPlainText, text_of_word, known_text, text_append, name_bytes, name_is_word, is_name-name, spells_text}
+use Rattle.ssa_text.proofs.TypeTexts.{first_word, more_words, first_is_word, inside_text, last_inside, more_inside}
+use Rattle.ssa_text.proofs.TypeTexts.{group_words, group_read}
+use Rattle.ssa_lines.proofs.WordTexts.{short_word, IsPlainText, text_of_word, known_text, text_append, name_bytes}
+use Rattle.ssa_lines.proofs.WordTexts.{name_is_word, is_name-name, spells_text}
 
 -- the group of results is read as they are
 results_read : (types : List Scalar) → results_of (words_of (results_text types)) ≡ Some types
@@ -138,7 +144,7 @@ sig_is_text s h limits =
     record { short = omega (arith, all.short, limits.params, limits.results); plain = all.plain }
 
 header_is_text : (word : List ℕ) (s : Sig) → IsPlainText 5 word → IsName s.name → SigWithinLimits s →
-    IsPlainText 4096 (word ++ sig_text s)
+    IsPlainText MAX_LINE_BYTES (word ++ sig_text s)
 header_is_text word s h name limits =
     let all = text_append 5 1300 word (sig_text s) h (sig_is_text s name limits) in
     record { short = omega (arith, all.short); plain = all.plain }

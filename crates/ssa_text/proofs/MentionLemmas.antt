@@ -1,5 +1,6 @@
 -- All that the lines of a function name stands among its mentions.
-use Rattle.std.proofs.Common.{◌≡◌, ℕ, Bool, true, false, List, [], ◌++◌, map, All, Option, None, Some, IfSome, sym, subst}
+use Rattle.std.proofs.Common.{◌≡◌, ℕ, Bool, true, false, List, [], ◌++◌, map, All, Option, None, Some, IfSome, sym}
+use Rattle.std.proofs.Common.{subst}
 use Rattle.std.proofs.lemmas.List.Elements.{All-nil, All-head, All-push}
 use Rattle.gossa_base.specs.declared.ids.ValueId.{ValueId}
 use Rattle.ssa_ir.specs.declared.types.Sig.{Sig}
@@ -11,7 +12,8 @@ use Rattle.ssa_text.specs.declared.partial.OpenFunc.{OpenFunc}
 use Rattle.ssa_text.specs.declared.partial.Named.{Named}
 use Rattle.ssa_text.specs.declared.partial.Named.TheVariants.{OfValue, OfBlock}
 use Rattle.ssa_text.specs.declared.partial.Mention.{Mention}
-use Rattle.ssa_text.specs.Reading.{has_open_block, values_so_far, mention, change, begin_block, add_value, value_behind, whole_block, end_open, end_block, control_mention}
+use Rattle.ssa_text.specs.Reading.{has_open_block, values_so_far, mention, change, begin_block, add_value, value_behind}
+use Rattle.ssa_text.specs.Reading.{whole_block, end_open, end_block, control_mention}
 use Rattle.ssa_text.proofs.ListLemmas.{All-unmap, All-front, All-back}
 use Rattle.ssa_text.proofs.OpenFuncLemmas.{value_last}
 use Rattle.ssa_text.proofs.ReadFacts.{ValuePasses, BlockPasses, EndPasses, FuncPasses, MentionsWell}

@@ -1,14 +1,19 @@
 -- Whether a block goes on behind a line.
-use Rattle.std.proofs.Common.{◌≡◌, ℕ, true, false, not, ◌&&◌, List, [], ◌∷◌, is_some, Option, None, Some, Result, Ok, refl, sym, ap, ◌∙◌, true≢false}
+use Rattle.std.proofs.Common.{◌≡◌, ℕ, true, false, not, ◌&&◌, List, [], ◌∷◌, is_some, Option, None, Some, Result, Ok}
+use Rattle.std.proofs.Common.{refl, sym, ap, ◌∙◌, true≢false}
 use Rattle.std.proofs.lemmas.Bool.{not-true}
 use Rattle.ssa_lines.specs.declared.forms.Spelled.TheVariants.{Fits, TooLarge as NotSpelled}
-use Rattle.ssa_lines.specs.declared.forms.ValueLine.TheVariants.{Known, UnknownOp as NoSuchOp, TooLarge as ValueTooLarge}
+use Rattle.ssa_lines.specs.declared.forms.ValueLine.TheVariants.{Known, UnknownOp as NoSuchOp}
+use Rattle.ssa_lines.specs.declared.forms.ValueLine.TheVariants.{TooLarge as ValueTooLarge}
 use Rattle.ssa_lines.specs.declared.forms.Form.{Form}
-use Rattle.ssa_lines.specs.declared.forms.Form.TheVariants.{Blank, Case, Sig as SigForm, Func as FuncForm, Block as BlockForm, Value as ValueForm, Control as ControlForm, Bad}
+use Rattle.ssa_lines.specs.declared.forms.Form.TheVariants.{Blank, Case, Sig as SigForm, Func as FuncForm}
+use Rattle.ssa_lines.specs.declared.forms.Form.TheVariants.{Block as BlockForm, Value as ValueForm}
+use Rattle.ssa_lines.specs.declared.forms.Form.TheVariants.{Control as ControlForm, Bad}
 use Rattle.ssa_text.specs.declared.partial.OpenBlock.{OpenBlock}
 use Rattle.ssa_text.specs.declared.partial.OpenFunc.{OpenFunc}
 use Rattle.ssa_lines.specs.declared.refusal.TextRefusal.{TextRefusal}
-use Rattle.ssa_text.specs.Reading.{Read, has_open_block, leaves_open, change, begin_block, add_value, value_behind, end_open, end_block, behind, then_read, is_last, read_from}
+use Rattle.ssa_text.specs.Reading.{Read, has_open_block, leaves_open, change, begin_block, add_value, value_behind}
+use Rattle.ssa_text.specs.Reading.{end_open, end_block, behind, then_read, is_last, read_from}
 use Rattle.ssa_text.proofs.FormTests.{Passes}
 
 -- a line that was read has no fault, and the lines behind it were read

@@ -1,9 +1,11 @@
 -- What a line leaves of the values and the blocks of the function that goes on.
-use Rattle.std.proofs.Common.{◌≡◌, ◌==◌, ℕ, ◌<◌, ◌≤◌, true, false, List, [], ◌∷◌, ◌++◌, length, map, is_some, All, Option, None, Some, IfSome, refl, sym, ap, subst, arith}
+use Rattle.std.proofs.Common.{◌≡◌, ◌==◌, ℕ, ◌<◌, ◌≤◌, true, false, List, [], ◌∷◌, ◌++◌, length, map, is_some, All}
+use Rattle.std.proofs.Common.{Option, None, Some, IfSome, refl, sym, ap, subst, arith}
 use Rattle.std.specs.List.{flat_map, list_any}
 use Rattle.std.proofs.lemmas.List.{append_assoc, append-nil}
 use Rattle.std.proofs.lemmas.List.Elements.{All-nil, All-push}
 use Rattle.gossa_base.specs.declared.ids.BlockId.{BlockId}
+use Rattle.ssa_ir.specs.declared.limits.TheConstants.{MAX_ARGS, MAX_BLOCKS, MAX_VALUES}
 use Rattle.ssa_ir.specs.declared.func.Value.{Value}
 use Rattle.ssa_ir.specs.declared.func.Block.{Block}
 use Rattle.ssa_ir.specs.declared.func.Func.{Func}
@@ -12,11 +14,14 @@ use Rattle.ssa_lines.specs.declared.forms.BlockLine.{BlockLine}
 use Rattle.ssa_lines.specs.declared.forms.ControlLine.{ControlLine}
 use Rattle.ssa_text.specs.declared.partial.OpenBlock.{OpenBlock}
 use Rattle.ssa_text.specs.declared.partial.OpenFunc.{OpenFunc}
-use Rattle.ssa_text.specs.Reading.{has_open_block, open_block_id, block_ids, open_values, values_so_far, change, begin_block, add_value, value_behind, whole_block, end_open, end_block, whole, with_whole}
+use Rattle.ssa_text.specs.Reading.{has_open_block, open_block_id, block_ids, open_values, values_so_far, change}
+use Rattle.ssa_text.specs.Reading.{begin_block, add_value, value_behind, whole_block, end_open, end_block, whole}
+use Rattle.ssa_text.specs.Reading.{with_whole}
 use Rattle.ssa_lines.proofs.FormFacts.{IsTextBlock, BlockFacts, ControlFacts}
 use Rattle.ssa_text.proofs.ListLemmas.{length_push, numbers_differ}
 use Rattle.ssa_text.proofs.ReadFacts.{GoodPreds, GoodBlock, GoodValue, ValuesWell, IdsWell, PartsWell, FuncWell}
-use Rattle.ssa_text.proofs.TakeLemmas.{values_kept_by_block, blocks_kept_by_value, blocks_kept_by_end, values_kept_by_end}
+use Rattle.ssa_text.proofs.TakeLemmas.{values_kept_by_block, blocks_kept_by_value, blocks_kept_by_end}
+use Rattle.ssa_text.proofs.TakeLemmas.{values_kept_by_end}
 
 -- no values, and no blocks
 pub no_values : ValuesWell []
@@ -26,7 +31,7 @@ pub no_ids : IdsWell []
 no_ids = record { good = All-nil IsTextBlock; few = omega arith; differ = λ i j d lt within. absurd (omega arith) }
 
 -- one more value, which has room and a number of its own
-pub value_more : (values : List Value) (v : Value) → ValuesWell values → GoodValue v → length values < 8192
+pub value_more : (values : List Value) (v : Value) → ValuesWell values → GoodValue v → length values < MAX_VALUES
     → list_any (λ u. u.id.0 == v.id.0) values ≡ false → ValuesWell (values ++ v ∷ [])
 value_more values v well good room new = record {
   good = All-push GoodValue values v well.good good;
@@ -35,7 +40,7 @@ value_more values v well good room new = record {
 }
 
 -- and one more block
-pub id_more : (ids : List BlockId) (id : BlockId) → IdsWell ids → IsTextBlock id → length ids < 1024
+pub id_more : (ids : List BlockId) (id : BlockId) → IdsWell ids → IsTextBlock id → length ids < MAX_BLOCKS
     → list_any (λ other. other.n == id.n) ids ≡ false → IdsWell (ids ++ id ∷ [])
 id_more ids id well good room new = record {
   good = All-push IsTextBlock ids id well.good good;
@@ -68,7 +73,7 @@ id_last line (Some f) some h = begun line.n f.blocks f.block h
 
 -- the values behind a line
 pub values_behind_value : (v : Value) (func : Option OpenFunc) → has_open_block func ≡ true
-    → ValuesWell (values_so_far func) → GoodValue v → length (values_so_far func) < 8192
+    → ValuesWell (values_so_far func) → GoodValue v → length (values_so_far func) < MAX_VALUES
     → list_any (λ u. u.id.0 == v.id.0) (values_so_far func) ≡ false
     → ValuesWell (values_so_far (change (value_behind v) func))
 values_behind_value v func here well good room new =
@@ -84,7 +89,7 @@ values_behind_end line func well = subst ValuesWell (sym (values_kept_by_end lin
 
 -- the blocks behind a line
 pub ids_behind_block : (line : BlockLine) (func : Option OpenFunc) → is_some func ≡ true
-    → has_open_block func ≡ false → IdsWell (block_ids func) → BlockFacts line → length (block_ids func) < 1024
+    → has_open_block func ≡ false → IdsWell (block_ids func) → BlockFacts line → length (block_ids func) < MAX_BLOCKS
     → list_any (λ id. id.n == line.n) (block_ids func) ≡ false
     → IdsWell (block_ids (change (begin_block line) func))
 ids_behind_block line func some here well facts room new =
@@ -100,7 +105,7 @@ pub ids_behind_end : (line : ControlLine) (func : Option OpenFunc) → IdsWell (
 ids_behind_end line func well = subst IdsWell (sym (blocks_kept_by_end line func)) well
 
 -- the whole blocks and the beginning of the open one behind a line
-pub parts_behind_block : (line : BlockLine) (func : Option OpenFunc) → BlockFacts line → length line.preds ≤ 380
+pub parts_behind_block : (line : BlockLine) (func : Option OpenFunc) → BlockFacts line → length line.preds ≤ MAX_ARGS
     → PartsWell func → PartsWell (change (begin_block line) func)
 parts_behind_block line None facts few well = well
 parts_behind_block line (Some f) facts few well =

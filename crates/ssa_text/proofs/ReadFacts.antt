@@ -1,7 +1,9 @@
 -- What holds of what was read so far, where no line had a fault.
-use Rattle.std.proofs.Common.{◌≡◌, ◌≤◌, Bool, true, false, List, [], length, map, is_none, All, Option, None, Some, IfSome}
+use Rattle.std.proofs.Common.{◌≡◌, ◌≤◌, Bool, true, false, List, [], length, map, is_none, All, Option, None, Some}
+use Rattle.std.proofs.Common.{IfSome}
 use Rattle.gossa_base.specs.declared.ids.ValueId.{ValueId}
 use Rattle.gossa_base.specs.declared.ids.BlockId.{BlockId}
+use Rattle.ssa_ir.specs.declared.limits.TheConstants.{MAX_ARGS, MAX_BLOCKS, MAX_FUNCTIONS, MAX_SIGS, MAX_VALUES}
 use Rattle.ssa_ir.specs.declared.types.Sig.{Sig}
 use Rattle.ssa_ir.specs.declared.func.Value.{Value}
 use Rattle.ssa_ir.specs.declared.func.Block.{Block}
@@ -16,7 +18,8 @@ use Rattle.ssa_text.specs.declared.partial.OpenFunc.{OpenFunc}
 use Rattle.ssa_text.specs.declared.partial.Named.{Named}
 use Rattle.ssa_text.specs.declared.partial.Named.TheVariants.{OfValue, OfBlock}
 use Rattle.ssa_text.specs.declared.partial.Mention.{Mention}
-use Rattle.ssa_text.specs.Reading.{Read, in_place, is_too_large, is_twice, names_given, block_ids, values_so_far, func_count}
+use Rattle.ssa_text.specs.Reading.{Read, in_place, is_too_large, is_twice, names_given, block_ids, values_so_far}
+use Rattle.ssa_text.specs.Reading.{func_count}
 use Rattle.ssa_lines.proofs.FormFacts.{IsTextBlock, FormFacts}
 use Rattle.ssa_text.proofs.LimitFacts.{FormLimits, HasRoom}
 
@@ -43,7 +46,7 @@ pub record GoodValue (v : Value) : Type 0 where
 -- predecessors that a text can name, and not too many
 pub record GoodPreds (preds : List BlockId) : Type 0 where
   pub each : All IsTextBlock preds
-  pub few : length preds ≤ 380
+  pub few : length preds ≤ MAX_ARGS
 
 pub record GoodBlock (b : Block) : Type 0 where
   pub well_formed : WellFormedBlock b
@@ -54,12 +57,12 @@ pub record GoodBlock (b : Block) : Type 0 where
 
 pub record ValuesWell (values : List Value) : Type 0 where
   pub good : All GoodValue values
-  pub few : length values ≤ 8192
+  pub few : length values ≤ MAX_VALUES
   pub differ : Differ (map (λ v. v.id.0) values)
 
 pub record IdsWell (ids : List BlockId) : Type 0 where
   pub good : All IsTextBlock ids
-  pub few : length ids ≤ 1024
+  pub few : length ids ≤ MAX_BLOCKS
   pub differ : Differ (map (λ id. id.n) ids)
 
 -- the whole blocks of a function that goes on, and the one that has no end yet
@@ -120,8 +123,8 @@ pub record SigsWell (r : Read) : Type 0 where
   pub open_func : IfSome r.func (λ f. GoodSig f.sig)
 
 pub record CountsWell (r : Read) : Type 0 where
-  pub sigs : length r.sigs ≤ 1024
-  pub funcs : func_count r ≤ 256
+  pub sigs : length r.sigs ≤ MAX_SIGS
+  pub funcs : func_count r ≤ MAX_FUNCTIONS
 
 -- signatures come before all functions, and no name stands twice
 pub record NamesWell (r : Read) : Type 0 where

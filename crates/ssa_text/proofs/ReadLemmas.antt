@@ -1,12 +1,14 @@
 -- What is read of lines, one after the other.
-use Rattle.std.proofs.Common.{◌≡◌, ℕ, ◌+◌, ◌≤◌, ◌==◌, Bool, true, false, ◌||◌, cond, List, [], ◌∷◌, length, Option, None, Some, Result, Ok, Err, refl, sym, ap, ◌∙◌, arith}
+use Rattle.std.proofs.Common.{◌≡◌, ℕ, ◌+◌, ◌≤◌, ◌==◌, Bool, true, false, ◌||◌, cond, List, [], ◌∷◌, length, Option}
+use Rattle.std.proofs.Common.{None, Some, Result, Ok, Err, refl, sym, ap, ◌∙◌, arith}
 use Rattle.std.proofs.lemmas.Bool.{ne_eqb}
 use Rattle.ssa_lines.specs.Forms.{form_of}
 use Rattle.ssa_lines.specs.Lines.{lines_of}
 use Rattle.ssa_lines.specs.Words.{words_of}
 use Rattle.ssa_lines.specs.declared.refusal.TextRefusal.{TextRefusal}
 use Rattle.ssa_text.specs.CaseSplit.{is_case_line, through_case}
-use Rattle.ssa_text.specs.Reading.{Read, nothing, has_open_block, fault_of, behind, then_read, read_line, read_from, is_last}
+use Rattle.ssa_text.specs.Reading.{Read, nothing, has_open_block, fault_of, behind, then_read, read_line, read_from}
+use Rattle.ssa_text.specs.Reading.{is_last}
 use Rattle.ssa_lines.specs.ReadsAs.{RefusesAs}
 use Rattle.ssa_lines.proofs.RefusalLemmas.{refuses_so}
 use Rattle.ssa_text.proofs.SplitLemmas.{few_lines_of}
@@ -37,7 +39,8 @@ pub record GoesOn (text : List ℕ) (r : Read) (number : ℕ) (lines : List (Lis
   pub exact : read_from r number (through_case lines) ≡ read_from nothing 1 (through_case (lines_of text))
   pub count : number + length lines ≤ length text + 1
 
-pub begun : (text : List ℕ) (r : Read) (lines : List (List ℕ)) → r ≡ nothing → lines ≡ lines_of text → GoesOn text r 1 lines
+pub begun : (text : List ℕ) (r : Read) (lines : List (List ℕ)) → r ≡ nothing → lines ≡ lines_of text
+    → GoesOn text r 1 lines
 begun text r lines first all = record {
   exact = λ i. read_from (first i) 1 (through_case (all i));
   count = omega (arith, few_lines_of text, ap length all);
@@ -77,7 +80,8 @@ module _ (text : List ℕ) (r : Read) (number : ℕ) (lines left : List (List �
       (ap (λ b. read_line r number b bytes) (sym ends) ∙ e))
       ∙ whole_is
 
-  pub goes_on : (next : Read) → read_line r number last bytes ≡ Ok next → in_cases ≡ false → GoesOn text next (number + 1) left
+  pub goes_on : (next : Read) → read_line r number last bytes ≡ Ok next → in_cases ≡ false
+      → GoesOn text next (number + 1) left
   goes_on next e other = record {
     exact = ap (λ b. read_from next (number + 1) (left_behind b left)) (sym other) ∙ line_read next e;
     count = omega (arith, so_far.count, ap length taken);
@@ -102,7 +106,8 @@ module _ (text : List ℕ) (r : Read) (number : ℕ) (lines left : List (List �
   pub refused_there : (refusal : TextRefusal) → RefusesAs refusal (read_line r number last bytes)
       → RefusesAs refusal (read_from nothing 1 (through_case (lines_of text)))
   refused_there =
-      refuses_so Read Read (read_line r number last bytes) (read_from nothing 1 (through_case (lines_of text))) fault_stays
+      refuses_so Read Read (read_line r number last bytes) (read_from nothing 1 (through_case (lines_of text)))
+      fault_stays
 
 -- behind all lines
 pub all_read : (text : List ℕ) (r : Read) (number : ℕ) (lines : List (List ℕ)) → GoesOn text r number lines → lines ≡ []

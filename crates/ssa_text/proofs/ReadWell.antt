@@ -9,12 +9,16 @@ use Rattle.ssa_lines.specs.declared.forms.BlockLine.{BlockLine}
 use Rattle.ssa_lines.specs.declared.forms.ControlLine.{ControlLine}
 use Rattle.ssa_lines.specs.declared.forms.ValueLine.TheVariants.{Known}
 use Rattle.ssa_lines.specs.declared.forms.Form.{Form}
-use Rattle.ssa_lines.specs.declared.forms.Form.TheVariants.{Sig as SigForm, Func as FuncForm, Block as BlockForm, Value as ValueForm, Control as ControlForm}
+use Rattle.ssa_lines.specs.declared.forms.Form.TheVariants.{Sig as SigForm, Func as FuncForm, Block as BlockForm}
+use Rattle.ssa_lines.specs.declared.forms.Form.TheVariants.{Value as ValueForm, Control as ControlForm}
 use Rattle.ssa_text.specs.Reading.{Read, nothing, has_open_block, in_place, fault_of_form, unknown_in, behind}
 use Rattle.ssa_lines.proofs.FormFacts.{FormFacts}
 use Rattle.ssa_lines.proofs.LimitLemmas.{neither}
-use Rattle.ssa_text.proofs.MentionLemmas.{no_mentions, new_mentions, mentions_behind_block, mentions_behind_value, mentions_behind_end}
-use Rattle.ssa_text.proofs.OpenFuncLemmas.{no_values, no_ids, values_behind_value, values_behind_block, values_behind_end, ids_behind_block, ids_behind_value, ids_behind_end, parts_behind_block, parts_behind_value, parts_behind_end, funcs_behind}
+use Rattle.ssa_text.proofs.MentionLemmas.{no_mentions, new_mentions, mentions_behind_block, mentions_behind_value}
+use Rattle.ssa_text.proofs.MentionLemmas.{mentions_behind_end}
+use Rattle.ssa_text.proofs.OpenFuncLemmas.{no_values, no_ids, values_behind_value, values_behind_block}
+use Rattle.ssa_text.proofs.OpenFuncLemmas.{values_behind_end, ids_behind_block, ids_behind_value, ids_behind_end}
+use Rattle.ssa_text.proofs.OpenFuncLemmas.{parts_behind_block, parts_behind_value, parts_behind_end, funcs_behind}
 use Rattle.ssa_text.proofs.ReadFacts.{Taken, GoodBlock, FuncWell, RefsThere, ReadWell}
 use Rattle.ssa_text.proofs.RefLemmas.{refs_behind}
 use Rattle.ssa_text.proofs.TakenLemmas.{taken}

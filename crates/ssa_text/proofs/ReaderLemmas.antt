@@ -11,7 +11,8 @@ use Rattle.ssa_lines.proofs.TableLemmas.{list_any_map}
 use Rattle.ssa_text.specs.Reading.{has_open_block, open_block_id, block_ids, has_named}
 
 whole_blocks : (n : ℕ) (blocks : List Block) (b : Option OpenBlock) → is_some b ≡ false
-    → list_any (λ (id : BlockId). id.n == n) (map (λ c. c.id) blocks ++ open_block_id b) ≡ list_any (λ c. c.id.n == n) blocks
+    → list_any (λ (id : BlockId). id.n == n) (map (λ c. c.id) blocks ++ open_block_id b)
+    ≡ list_any (λ c. c.id.n == n) blocks
 whole_blocks n blocks (Some b) h = cc
 whole_blocks n blocks None h =
     ap (list_any (λ (id : BlockId). id.n == n)) (append-nil (map (λ c. c.id) blocks))

@@ -1,5 +1,6 @@
 -- What the lines of a function name is there, where none of its mentions is unknown.
-use Rattle.std.proofs.Common.{◌≡◌, ◌==◌, ℕ, Bool, true, false, not, ◌&&◌, List, ◌++◌, map, find, is_some, All, Option, None, Some, IfSome, option_map, get_or, refl, ◌∙◌, subst}
+use Rattle.std.proofs.Common.{◌≡◌, ◌==◌, ℕ, Bool, true, false, not, ◌&&◌, List, ◌++◌, map, find, is_some, All, Option}
+use Rattle.std.proofs.Common.{None, Some, IfSome, option_map, get_or, refl, ◌∙◌, subst}
 use Rattle.std.specs.Bool.{beq}
 use Rattle.std.specs.List.{flat_map}
 use Rattle.std.proofs.lemmas.Bool.{not-false}
@@ -16,11 +17,13 @@ use Rattle.ssa_text.specs.declared.partial.OpenBlock.{OpenBlock}
 use Rattle.ssa_text.specs.declared.partial.OpenFunc.{OpenFunc}
 use Rattle.ssa_text.specs.declared.partial.Named.TheVariants.{OfValue, OfBlock}
 use Rattle.ssa_text.specs.declared.partial.Mention.{Mention}
-use Rattle.ssa_text.specs.Reading.{has_open_block, block_ids, open_block_id, open_values, has_named, unknown_in, whole, with_whole}
+use Rattle.ssa_text.specs.Reading.{has_open_block, block_ids, open_block_id, open_values, has_named, unknown_in, whole}
+use Rattle.ssa_text.specs.Reading.{with_whole}
 use Rattle.ssa_lines.proofs.FormFacts.{IsTextBlock}
 use Rattle.ssa_text.proofs.ListLemmas.{All-unmap, All-front, none_found, found_by_test, same_tests}
 use Rattle.ssa_text.proofs.MentionLemmas.{ArgsPass}
-use Rattle.ssa_text.proofs.ReadFacts.{GoodBlock, IdsWell, PartsWell, ValuePasses, BlockPasses, EndPasses, MentionsWell, RefsThere}
+use Rattle.ssa_text.proofs.ReadFacts.{GoodBlock, IdsWell, PartsWell, ValuePasses, BlockPasses, EndPasses, MentionsWell}
+use Rattle.ssa_text.proofs.ReadFacts.{RefsThere}
 
 none_unknown : (line : Mention → ℕ) (o : Option Mention) → option_map line o ≡ None → o ≡ None
 none_unknown line None h = refl

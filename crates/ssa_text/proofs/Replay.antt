@@ -1,12 +1,15 @@
 -- What was read from any lines is read from canonical lines: each form that was taken is taken again from its own.
-use Rattle.std.proofs.Common.{◌≡◌, ℕ, ◌+◌, Bool, true, false, ◌&&◌, List, [], ◌∷◌, ◌++◌, None, Ok, All, refl, sym, ap, subst, ◌∙◌, true≢false}
+use Rattle.std.proofs.Common.{◌≡◌, ℕ, ◌+◌, Bool, true, false, ◌&&◌, List, [], ◌∷◌, ◌++◌, None, Ok, All, refl, sym, ap}
+use Rattle.std.proofs.Common.{subst, ◌∙◌, true≢false}
 use Rattle.std.specs.List.{flat_map}
 use Rattle.std.proofs.lemmas.List.{append_assoc, append-nil}
 use Rattle.std.proofs.lemmas.List.Elements.{All-nil, All-cons}
 use Rattle.ssa_lines.specs.Forms.{form_of}
 use Rattle.ssa_lines.specs.Words.{words_of}
 use Rattle.ssa_lines.specs.declared.forms.Form.{Form}
-use Rattle.ssa_lines.specs.declared.forms.Form.TheVariants.{Blank, Case, Sig as SigForm, Func as FuncForm, Block as BlockForm, Value as ValueForm, Control as ControlForm, Bad}
+use Rattle.ssa_lines.specs.declared.forms.Form.TheVariants.{Blank, Case, Sig as SigForm, Func as FuncForm}
+use Rattle.ssa_lines.specs.declared.forms.Form.TheVariants.{Block as BlockForm, Value as ValueForm}
+use Rattle.ssa_lines.specs.declared.forms.Form.TheVariants.{Control as ControlForm, Bad}
 use Rattle.ssa_lines.proofs.LineLemmas.{HasNoNewline}
 use Rattle.ssa_text.specs.Reading.{Read, has_open_block, leaves_open, fault_of, behind, then_read, is_last, read_from}
 use Rattle.ssa_text.proofs.AlikeReads.{Alike, alike_passes, alike_behind}

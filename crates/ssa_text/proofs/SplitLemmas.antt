@@ -1,5 +1,6 @@
 -- The lines of a text and their bytes, and the first line of a case among them.
-use Rattle.std.proofs.Common.{◌≡◌, ℕ, suc, ◌+◌, ◌≤◌, ◌<◌, Bool, true, false, not, ◌||◌, cond, List, [], ◌∷◌, length, drop, get_or, refl, sym, ap, ◌∙◌, arith, ⊎_elim, length-take}
+use Rattle.std.proofs.Common.{◌≡◌, ℕ, suc, ◌+◌, ◌≤◌, ◌<◌, Bool, true, false, not, ◌||◌, cond, List, [], ◌∷◌, length}
+use Rattle.std.proofs.Common.{drop, get_or, refl, sym, ap, ◌∙◌, arith, ⊎_elim, length-take}
 use Rattle.std.specs.List.{list_any, slice_split, onto_first, position_or_len, before_first, after_first}
 use Rattle.std.proofs.lemmas.Bool.{not-true, cases_lt}
 use Rattle.std.proofs.lemmas.List.{drop_all, drop-drop}
@@ -62,7 +63,8 @@ case_line_within text = omega (arith, fewer_before (lines_of text), few_lines_of
 
 -- where the cases begin, by the lines left behind so many bytes
 abbrev pub offset_behind : List ℕ → ℕ → List (List ℕ) → ℕ
-offset_behind text offset lines = cond (list_any is_case_line lines) (offset + bytes_of (before_case lines)) (length text)
+offset_behind text offset lines =
+    cond (list_any is_case_line lines) (offset + bytes_of (before_case lines)) (length text)
 
 -- and by the lines left from this number on
 abbrev pub line_behind : ℕ → List (List ℕ) → ℕ
@@ -113,7 +115,8 @@ module _ (text line : List ℕ) (left : List (List ℕ)) (taken : lines_of text 
       (prefix_len_passes (λ b. not (is_newline b)) text i 0 (omega (arith, lt, past)))) in
       whole text none taken
     where
-      whole : (bytes : List ℕ) → HasNoNewline bytes → lines_of bytes ≡ line ∷ left → lines_of (drop (length line + 1) bytes) ≡ left
+      whole : (bytes : List ℕ) → HasNoNewline bytes → lines_of bytes ≡ line ∷ left
+          → lines_of (drop (length line + 1) bytes) ≡ left
       whole [] none e = cc
       whole (b ∷ bytes) none e =
           let only : (b ∷ bytes) ∷ [] ≡ line ∷ left = sym (only_line (b ∷ bytes) (omega arith) none) ∙ e in
@@ -129,31 +132,32 @@ abbrev offset_of : List (List ℕ) → List ℕ → ℕ
 offset_of lines text = cond (list_any is_case_line lines) (bytes_of (before_case lines)) (length text)
 
 module _ (text line : List ℕ) (lines : List (List ℕ)) (taken : lines_of text ≡ line ∷ lines)
-    (there : (rest : List ℕ) → lines_of rest ≡ lines → lines_of (drop (offset_of lines rest) rest) ≡ from_case lines) where
-  abbrev rest : List ℕ
-  rest = drop (length line + 1) text
+    (there : (rest : List ℕ) → lines_of rest ≡ lines → lines_of (drop (offset_of lines rest) rest) ≡ from_case lines)
+  where
+    abbrev rest : List ℕ
+    rest = drop (length line + 1) text
 
-  in_rest : lines_of (drop (offset_of lines rest) rest) ≡ from_case lines
-  in_rest = there rest (behind_line text line lines taken)
+    in_rest : lines_of (drop (offset_of lines rest) rest) ≡ from_case lines
+    in_rest = there rest (behind_line text line lines taken)
 
-  behind_other : (c : Bool) → list_any is_case_line lines ≡ c
-      → lines_of (drop (cond c (length line + 1 + bytes_of (before_case lines)) (length text)) text) ≡ from_case lines
-  behind_other true e =
-      ap lines_of (sym (drop-drop (bytes_of (before_case lines)) (length line + 1) text))
-      ∙ ap (λ b. lines_of (drop (cond b (bytes_of (before_case lines)) (length rest)) rest)) (sym e)
-      ∙ in_rest
-  behind_other false e =
-      ap lines_of (drop_all (length text) text (omega arith))
-      ∙ sym (ap lines_of (drop_all (length rest) rest (omega arith)))
-      ∙ ap (λ b. lines_of (drop (cond b (bytes_of (before_case lines)) (length rest)) rest)) (sym e)
-      ∙ in_rest
+    behind_other : (c : Bool) → list_any is_case_line lines ≡ c
+        → lines_of (drop (cond c (length line + 1 + bytes_of (before_case lines)) (length text)) text) ≡ from_case lines
+    behind_other true e =
+        ap lines_of (sym (drop-drop (bytes_of (before_case lines)) (length line + 1) text))
+        ∙ ap (λ b. lines_of (drop (cond b (bytes_of (before_case lines)) (length rest)) rest)) (sym e)
+        ∙ in_rest
+    behind_other false e =
+        ap lines_of (drop_all (length text) text (omega arith))
+        ∙ sym (ap lines_of (drop_all (length rest) rest (omega arith)))
+        ∙ ap (λ b. lines_of (drop (cond b (bytes_of (before_case lines)) (length rest)) rest)) (sym e)
+        ∙ in_rest
 
-  by_line : (b : Bool) → is_case_line line ≡ b
-      → lines_of (drop (cond (b || list_any is_case_line lines)
-      (bytes_of (cond b [] (line ∷ before_case lines))) (length text)) text)
-      ≡ cond b (line ∷ lines) (from_case lines)
-  by_line true e = taken
-  by_line false e = behind_other (list_any is_case_line lines) refl
+    by_line : (b : Bool) → is_case_line line ≡ b
+        → lines_of (drop (cond (b || list_any is_case_line lines)
+        (bytes_of (cond b [] (line ∷ before_case lines))) (length text)) text)
+        ≡ cond b (line ∷ lines) (from_case lines)
+    by_line true e = taken
+    by_line false e = behind_other (list_any is_case_line lines) refl
 
 lines_from : (lines : List (List ℕ)) (text : List ℕ) → lines_of text ≡ lines
     → lines_of (drop (offset_of lines text) text) ≡ from_case lines
@@ -171,10 +175,12 @@ before_by_test line lines before true c e later = omega arith
 before_by_test line lines before false true e later = omega (arith, later refl)
 before_by_test line lines before false false e later = cc
 
-bytes_before : (lines : List (List ℕ)) → list_any is_case_line lines ≡ true → bytes_of (before_case lines) + 1 ≤ bytes_of lines
+bytes_before : (lines : List (List ℕ)) → list_any is_case_line lines ≡ true
+    → bytes_of (before_case lines) + 1 ≤ bytes_of lines
 bytes_before [] e = cc
 bytes_before (line ∷ lines) e =
-    before_by_test line lines (before_case lines) (is_case_line line) (list_any is_case_line lines) e (bytes_before lines)
+    before_by_test line lines (before_case lines) (is_case_line line) (list_any is_case_line lines) e
+    (bytes_before lines)
 
 offset_by_test : (text : List ℕ) (b : Bool) → list_any is_case_line (lines_of text) ≡ b
     → cond b (bytes_of (before_case (lines_of text))) (length text) ≤ length text

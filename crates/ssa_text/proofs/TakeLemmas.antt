@@ -1,5 +1,6 @@
 -- What a line changes of the names and the numbers that were given.
-use Rattle.std.proofs.Common.{◌≡◌, ◌==◌, cond, ℕ, Bool, true, false, not, ◌&&◌, List, [], ◌∷◌, ◌++◌, map, is_none, is_some, Option, None, Some, refl, sym, ap, ◌∙◌}
+use Rattle.std.proofs.Common.{◌≡◌, ◌==◌, cond, ℕ, Bool, true, false, not, ◌&&◌, List, [], ◌∷◌, ◌++◌, map, is_none}
+use Rattle.std.proofs.Common.{is_some, Option, None, Some, refl, sym, ap, ◌∙◌}
 use Rattle.std.specs.List.{flat_map, list_any}
 use Rattle.std.proofs.lemmas.Grind.{flat_map-append}
 use Rattle.std.proofs.lemmas.List.{append_assoc, append-nil, map-append}
@@ -15,7 +16,9 @@ use Rattle.ssa_text.specs.declared.partial.OpenFunc.{OpenFunc}
 use Rattle.ssa_lines.specs.Tables.{with_number}
 use Rattle.ssa_lines.proofs.TableLemmas.{list_any_map}
 use Rattle.ssa_text.specs.declared.partial.Mention.{Mention}
-use Rattle.ssa_text.specs.Reading.{read_of, has_open_block, open_name, open_block_id, block_ids, open_values, values_so_far, change, begin_block, add_value, value_behind, whole_block, end_open, end_block, with_whole}
+use Rattle.ssa_text.specs.Reading.{read_of, has_open_block, open_name, open_block_id, block_ids, open_values}
+use Rattle.ssa_text.specs.Reading.{values_so_far, change, begin_block, add_value, value_behind, whole_block, end_open}
+use Rattle.ssa_text.specs.Reading.{end_block, with_whole}
 
 -- what was read is known by its parts
 pub so_far : (sigs : List Sig) {funcs more : List Func} {func next : Option OpenFunc} {mentions named : List Mention}
@@ -39,7 +42,8 @@ abbrev pub all_names : List Sig → List Func → Option OpenFunc → List (List
 all_names sigs funcs func = map (λ s. s.name) sigs ++ (map (λ f. f.sig.name) funcs ++ open_name func)
 
 -- a signature before all functions
-pub sig_behind : (sigs : List Sig) (s : Sig) → all_names (sigs ++ s ∷ []) [] None ≡ all_names sigs [] None ++ s.name ∷ []
+pub sig_behind : (sigs : List Sig) (s : Sig)
+    → all_names (sigs ++ s ∷ []) [] None ≡ all_names sigs [] None ++ s.name ∷ []
 sig_behind sigs s =
     append-nil (map (λ t. t.name) (sigs ++ s ∷ []))
     ∙ map-append (λ (t : Sig). t.name) sigs (s ∷ [])
@@ -49,7 +53,8 @@ sig_behind sigs s =
 pub whole_names : (funcs : List Func) (func : Option OpenFunc)
     → map (λ (f : Func). f.sig.name) (with_whole funcs func) ≡ map (λ f. f.sig.name) funcs ++ open_name func
 whole_names funcs None = sym (append-nil (map (λ f. f.sig.name) funcs))
-whole_names funcs (Some f) = map-append (λ (g : Func). g.sig.name) funcs (record { sig = f.sig; blocks = f.blocks } ∷ [])
+whole_names funcs (Some f) =
+    map-append (λ (g : Func). g.sig.name) funcs (record { sig = f.sig; blocks = f.blocks } ∷ [])
 
 -- a function behind the others
 pub func_behind : (sigs : List Sig) (funcs : List Func) (func : Option OpenFunc) (s : Sig)
@@ -114,7 +119,8 @@ added_id : (v : Value) (b : Option OpenBlock) → open_block_id (add_value v b) 
 added_id v None = refl
 added_id v (Some b) = refl
 
-pub blocks_kept_by_value : (v : Value) (func : Option OpenFunc) → block_ids (change (value_behind v) func) ≡ block_ids func
+pub blocks_kept_by_value : (v : Value) (func : Option OpenFunc)
+    → block_ids (change (value_behind v) func) ≡ block_ids func
 blocks_kept_by_value v None = refl
 blocks_kept_by_value v (Some f) = ap (λ l. map (λ b. b.id) f.blocks ++ l) (added_id v f.block)
 
@@ -127,7 +133,8 @@ ended_ids line f (Some b) =
     ∙ map-append (λ (c : Block). c.id) f.blocks (whole_block line b ∷ [])
 
 -- the end of a block keeps its number
-pub blocks_kept_by_end : (line : ControlLine) (func : Option OpenFunc) → block_ids (change (end_block line) func) ≡ block_ids func
+pub blocks_kept_by_end : (line : ControlLine) (func : Option OpenFunc)
+    → block_ids (change (end_block line) func) ≡ block_ids func
 blocks_kept_by_end line None = refl
 blocks_kept_by_end line (Some f) = ended_ids line f f.block
 
@@ -147,7 +154,8 @@ values_kept_by_end line None = refl
 values_kept_by_end line (Some f) = ended_values line f f.block
 
 -- the table of names behind a signature
-pub sig_taken : (sigs more : List Sig) (funcs : List Func) (func : Option OpenFunc) (s : Sig) (names after : List (List ℕ))
+pub sig_taken : (sigs more : List Sig) (funcs : List Func) (func : Option OpenFunc) (s : Sig)
+    (names after : List (List ℕ))
     (name : List ℕ) → is_none func ≡ true → (is_none func ≡ true → funcs ≡ []) → names ≡ all_names sigs funcs func
     → more ≡ sigs ++ s ∷ [] → after ≡ names ++ name ∷ [] → name ≡ s.name → after ≡ all_names more funcs func
 sig_taken sigs more funcs (Some f) s names after name none first before pushed put same = cc
@@ -173,12 +181,15 @@ func_taken sigs funcs more func s blocks names after before whole put empty =
     ∙ ap (all_names sigs more) (sym (begun s empty))
 
 -- the table of names stays where the function that goes on changes
-pub names_stay : (sigs : List Sig) (funcs : List Func) (func : Option OpenFunc) (by : OpenFunc → OpenFunc) (names : List (List ℕ))
-    → ((f : OpenFunc) → (by f).sig ≡ f.sig) → names ≡ all_names sigs funcs func → names ≡ all_names sigs funcs (change by func)
+pub names_stay : (sigs : List Sig) (funcs : List Func) (func : Option OpenFunc) (by : OpenFunc → OpenFunc)
+    (names : List (List ℕ))
+    → ((f : OpenFunc) → (by f).sig ≡ f.sig) → names ≡ all_names sigs funcs func
+    → names ≡ all_names sigs funcs (change by func)
 names_stay sigs funcs func by names keeps before =
     before ∙ ap (λ l. map (λ s. s.name) sigs ++ (map (λ f. f.sig.name) funcs ++ l)) (sym (name_kept by keeps func))
 
-pub still_none : (by : OpenFunc → OpenFunc) (func : Option OpenFunc) (funcs : List Func) → (is_none func ≡ true → funcs ≡ [])
+pub still_none : (by : OpenFunc → OpenFunc) (func : Option OpenFunc) (funcs : List Func)
+    → (is_none func ≡ true → funcs ≡ [])
     → is_none (change by func) ≡ true → funcs ≡ []
 still_none by None funcs first none = first refl
 still_none by (Some f) funcs first none = cc
@@ -200,7 +211,8 @@ not_so true e = cc
 not_so false e = refl
 
 -- a number that isn't there goes last
-put_last : (n : ℕ) (numbers : List ℕ) → list_any (λ m. m == n) numbers ≡ false → with_number n numbers ≡ numbers ++ n ∷ []
+put_last : (n : ℕ) (numbers : List ℕ) → list_any (λ m. m == n) numbers ≡ false
+    → with_number n numbers ≡ numbers ++ n ∷ []
 put_last n numbers absent = ap (λ b. cond b numbers (numbers ++ n ∷ [])) absent
 
 -- the table of names stays, and what is known of a text without functions
@@ -222,14 +234,16 @@ module _ (line : BlockLine) (func after : Option OpenFunc) (changed : after ≡ 
       → numbers ≡ block_numbers func → more ≡ with_number line.n numbers → more ≡ block_numbers after
   block_taken numbers more once before put =
       let absent : list_any (λ m. m == line.n) numbers ≡ false =
-      ap (list_any (λ m. m == line.n)) before ∙ list_any_map (λ (id : BlockId). id.n) (λ m. m == line.n) (block_ids func) ∙ once in
+      ap (list_any (λ m. m == line.n)) before
+      ∙ list_any_map (λ (id : BlockId). id.n) (λ m. m == line.n) (block_ids func) ∙ once in
       put ∙ put_last line.n numbers absent ∙ ap (λ l. l ++ line.n ∷ []) before
       ∙ sym (block_behind line func (both_so (is_some func) (not (has_open_block func)) place).0 whole)
       ∙ ap block_numbers (sym changed)
 
   pub values_stay : (numbers : List ℕ) → numbers ≡ value_numbers func → numbers ≡ value_numbers after
   values_stay numbers before =
-      before ∙ ap (map (λ (v : Value). v.id.0)) (sym (values_kept_by_block line func whole)) ∙ ap value_numbers (sym changed)
+      before ∙ ap (map (λ (v : Value). v.id.0)) (sym (values_kept_by_block line func whole))
+      ∙ ap value_numbers (sym changed)
 
 -- the tables of numbers behind a value
 module _ (v : Value) (func after : Option OpenFunc) (changed : after ≡ change (value_behind v) func)
@@ -238,7 +252,8 @@ module _ (v : Value) (func after : Option OpenFunc) (changed : after ≡ change 
       → numbers ≡ value_numbers func → more ≡ with_number v.id.0 numbers → more ≡ value_numbers after
   value_taken numbers more once before put =
       let absent : list_any (λ m. m == v.id.0) numbers ≡ false =
-      ap (list_any (λ m. m == v.id.0)) before ∙ list_any_map (λ (u : Value). u.id.0) (λ m. m == v.id.0) (values_so_far func) ∙ once in
+      ap (list_any (λ m. m == v.id.0)) before
+      ∙ list_any_map (λ (u : Value). u.id.0) (λ m. m == v.id.0) (values_so_far func) ∙ once in
       put ∙ put_last v.id.0 numbers absent ∙ ap (λ l. l ++ v.id.0 ∷ []) before
       ∙ sym (value_behind_others v func place)
       ∙ ap value_numbers (sym changed)

@@ -1,5 +1,6 @@
 -- The text of what was read so far, and that each line adds the one of its form.
-use Rattle.std.proofs.Common.{◌≡◌, ℕ, true, false, not, ◌&&◌, List, [], ◌∷◌, ◌++◌, codes, is_none, is_some, Option, None, Some, refl, sym, ap, ◌∙◌, true≢false}
+use Rattle.std.proofs.Common.{◌≡◌, ℕ, true, false, not, ◌&&◌, List, [], ◌∷◌, ◌++◌, codes, is_none, is_some, Option}
+use Rattle.std.proofs.Common.{None, Some, refl, sym, ap, ◌∙◌, true≢false}
 use Rattle.std.specs.List.{flat_map}
 use Rattle.std.proofs.lemmas.Bool.{not-true}
 use Rattle.std.proofs.lemmas.Grind.{flat_map-append}
@@ -15,12 +16,16 @@ use Rattle.ssa_lines.specs.NumberWords.{bid}
 use Rattle.ssa_lines.specs.declared.forms.Spelled.TheVariants.{Fits, TooLarge as NotSpelled}
 use Rattle.ssa_lines.specs.declared.forms.BlockLine.{BlockLine}
 use Rattle.ssa_lines.specs.declared.forms.ControlLine.{ControlLine}
-use Rattle.ssa_lines.specs.declared.forms.ValueLine.TheVariants.{Known, UnknownOp as NoSuchOp, TooLarge as ValueTooLarge}
+use Rattle.ssa_lines.specs.declared.forms.ValueLine.TheVariants.{Known, UnknownOp as NoSuchOp}
+use Rattle.ssa_lines.specs.declared.forms.ValueLine.TheVariants.{TooLarge as ValueTooLarge}
 use Rattle.ssa_lines.specs.declared.forms.Form.{Form}
-use Rattle.ssa_lines.specs.declared.forms.Form.TheVariants.{Blank, Case, Sig as SigForm, Func as FuncForm, Block as BlockForm, Value as ValueForm, Control as ControlForm, Bad}
+use Rattle.ssa_lines.specs.declared.forms.Form.TheVariants.{Blank, Case, Sig as SigForm, Func as FuncForm}
+use Rattle.ssa_lines.specs.declared.forms.Form.TheVariants.{Block as BlockForm, Value as ValueForm}
+use Rattle.ssa_lines.specs.declared.forms.Form.TheVariants.{Control as ControlForm, Bad}
 use Rattle.ssa_text.specs.declared.partial.OpenBlock.{OpenBlock}
 use Rattle.ssa_text.specs.declared.partial.OpenFunc.{OpenFunc}
-use Rattle.ssa_text.specs.Reading.{Read, has_open_block, whole, with_whole, change, begin_block, add_value, value_behind, whole_block, end_open, end_block, behind}
+use Rattle.ssa_text.specs.Reading.{Read, has_open_block, whole, with_whole, change, begin_block, add_value}
+use Rattle.ssa_text.specs.Reading.{value_behind, whole_block, end_open, end_block, behind}
 use Rattle.ssa_text.specs.Text.{type_text, aux_text, value_line, preds_text, end_text, block_lines, func_text}
 use Rattle.ssa_text.proofs.FormTests.{Passes}
 use Rattle.ssa_text.proofs.FormTexts.{is_left_out, line_of}

@@ -1,11 +1,15 @@
 -- The texts of types are words, and are read as those types; so are groups of types.
-use Rattle.std.proofs.Common.{◌≡◌, ℕ, ◌+◌, ◌*◌, ◌<◌, ◌≤◌, nat_eq, Bool, false, cond, List, [], ◌∷◌, ◌++◌, append_assoc, append-nil, length-append, length, codes, Option, None, Some, refl, sym, ap, subst, ◌∙◌, arith}
+use Rattle.std.proofs.Common.{◌≡◌, ℕ, ◌+◌, ◌*◌, ◌<◌, ◌≤◌, nat_eq, Bool, false, cond, List, [], ◌∷◌, ◌++◌, append_assoc}
+use Rattle.std.proofs.Common.{append-nil, length-append, length, codes, Option, None, Some, refl, sym, ap, subst, ◌∙◌}
+use Rattle.std.proofs.Common.{arith}
 use Rattle.std.specs.Cmp.Lexicographic.{unequal}
 use Rattle.std.specs.List.{slice_split, join_by}
 use Rattle.std.specs.Option.{option_map}
 use Rattle.std.proofs.lemmas.List.Elements.{All-nil, All-append}
+use Rattle.ssa_ir.specs.declared.limits.TheConstants.{MAX_RESULTS}
 use Rattle.ssa_ir.specs.declared.types.Scalar.{Scalar}
-use Rattle.ssa_ir.specs.declared.types.Scalar.TheVariants.{I8, I16, I32, I64, U8, U16, U32, U64, Uintptr, Bool as TrueOrFalse, Ptr}
+use Rattle.ssa_ir.specs.declared.types.Scalar.TheVariants.{I8, I16, I32, I64, U8, U16, U32, U64, Uintptr}
+use Rattle.ssa_ir.specs.declared.types.Scalar.TheVariants.{Bool as TrueOrFalse, Ptr}
 use Rattle.ssa_ir.specs.declared.types.Ty.{Ty}
 use Rattle.ssa_ir.specs.declared.types.Ty.TheVariants.{One, Mem, Tuple, Flags, Void}
 use Rattle.ssa_ir.specs.declared.op.Op.{Op}
@@ -124,7 +128,7 @@ tuple_is_word (t ∷ types) =
     (longer_word (8 + (8 * length types + 3)) (8 * length (t ∷ types) + 3) (front ++ behind) (omega arith) all)
 
 -- the name of a type that can be written is a word, of at most eight bytes for each type of a tuple, and three
-pub type_is_word : (op : Op) (ty : Ty) → CanBeWritten op ty → length (tuple_words ty) ≤ 64 →
+pub type_is_word : (op : Op) (ty : Ty) → CanBeWritten op ty → length (tuple_words ty) ≤ MAX_RESULTS →
     IsPlainWord 515 (type_name ty)
 type_is_word op (One t) h few = longer_word 7 515 (scalar_name t) (omega arith) (scalar_is_word t)
 type_is_word op Mem h few = short_word 515 (codes "mem") refl
@@ -135,7 +139,7 @@ type_is_word op Flags h few = absurd h
 type_is_word op Void h few = absurd h
 
 -- so is it in angle brackets
-pub bracketed_type_is_word : (op : Op) (ty : Ty) → CanBeWritten op ty → length (tuple_words ty) ≤ 64 →
+pub bracketed_type_is_word : (op : Op) (ty : Ty) → CanBeWritten op ty → length (tuple_words ty) ≤ MAX_RESULTS →
     IsPlainWord 517 (codes "<" ++ (type_name ty ++ codes ">"))
 bracketed_type_is_word op ty h few = between_is_word 515 60 62 (type_name ty) refl refl (type_is_word op ty h few)
 

@@ -1,17 +1,21 @@
 -- What a line leaves of the signatures, the counts and the names of a unit.
-use Rattle.std.proofs.Common.{◌≡◌, ℕ, ◌+◌, ◌<◌, ◌≤◌, false, nat_eq, List, [], ◌∷◌, ◌++◌, length, is_some, if◌then◌else◌, All, Option, None, Some, IfSome, refl, sym, subst, arith}
+use Rattle.std.proofs.Common.{◌≡◌, ℕ, ◌+◌, ◌<◌, ◌≤◌, false, nat_eq, List, [], ◌∷◌, ◌++◌, length, is_some, if◌then◌else◌}
+use Rattle.std.proofs.Common.{All, Option, None, Some, IfSome, refl, sym, subst, arith}
 use Rattle.std.specs.Cmp.Lexicographic.{pointwise}
 use Rattle.std.specs.List.{list_any}
 use Rattle.std.proofs.lemmas.List.Elements.{All-push}
 use Rattle.std.proofs.lemmas.Slice.Eq.{bytes_eq-Decides}
+use Rattle.ssa_ir.specs.declared.limits.TheConstants.{MAX_FUNCTIONS, MAX_SIGS}
 use Rattle.ssa_ir.specs.declared.func.Func.{Func}
 use Rattle.ssa_ir.specs.WellFormed.{Differ}
 use Rattle.ssa_lines.specs.declared.forms.Spelled.TheVariants.{Fits}
 use Rattle.ssa_lines.specs.declared.forms.ValueLine.TheVariants.{Known}
 use Rattle.ssa_lines.specs.declared.forms.Form.{Form}
-use Rattle.ssa_lines.specs.declared.forms.Form.TheVariants.{Sig as SigForm, Func as FuncForm, Block as BlockForm, Value as ValueForm, Control as ControlForm}
+use Rattle.ssa_lines.specs.declared.forms.Form.TheVariants.{Sig as SigForm, Func as FuncForm, Block as BlockForm}
+use Rattle.ssa_lines.specs.declared.forms.Form.TheVariants.{Value as ValueForm, Control as ControlForm}
 use Rattle.ssa_text.specs.declared.partial.OpenFunc.{OpenFunc}
-use Rattle.ssa_text.specs.Reading.{Read, names_given, change, begin_block, value_behind, end_block, whole, with_whole, behind}
+use Rattle.ssa_text.specs.Reading.{Read, names_given, change, begin_block, value_behind, end_block, whole, with_whole}
+use Rattle.ssa_text.specs.Reading.{behind}
 use Rattle.ssa_text.proofs.ListLemmas.{length_push, none_same, differ_push}
 use Rattle.ssa_text.proofs.ReadFacts.{Taken, GoodSig, SigsWell, CountsWell, NamesWell}
 use Rattle.ssa_text.proofs.TakeLemmas.{all_names, func_behind, sig_taken, names_stay, still_none, end_keeps_sig}
@@ -70,8 +74,8 @@ whole_count funcs None = omega arith
 whole_count funcs (Some f) = length_push funcs (whole f)
 
 count_stays : (funcs : List Func) (by : OpenFunc → OpenFunc) (func : Option OpenFunc)
-    → length funcs + (if is_some func then 1 else 0) ≤ 256
-    → length funcs + (if is_some (change by func) then 1 else 0) ≤ 256
+    → length funcs + (if is_some func then 1 else 0) ≤ MAX_FUNCTIONS
+    → length funcs + (if is_some (change by func) then 1 else 0) ≤ MAX_FUNCTIONS
 count_stays funcs by None h = h
 count_stays funcs by (Some f) h = h
 
@@ -79,10 +83,10 @@ count_stays funcs by (Some f) h = h
 pub counts_behind : (r : Read) (line : ℕ) (form : Form) → Taken r form → CountsWell r
     → CountsWell (behind r line form)
 counts_behind r line (SigForm s) t well =
-    let room : length r.sigs < 1024 = t.room in
+    let room : length r.sigs < MAX_SIGS = t.room in
     record { sigs = omega (arith, length_push r.sigs s); funcs = well.funcs }
 counts_behind r line (FuncForm s) t well =
-    let room : length r.funcs + (if is_some r.func then 1 else 0) < 256 = t.room in
+    let room : length r.funcs + (if is_some r.func then 1 else 0) < MAX_FUNCTIONS = t.room in
     record { sigs = well.sigs; funcs = omega (arith, whole_count r.funcs r.func) }
 counts_behind r line (BlockForm (Fits b)) t well =
     record { sigs = well.sigs; funcs = count_stays r.funcs (begin_block b) r.func well.funcs }

@@ -14,7 +14,8 @@ use Rattle.ssa_text.specs.UnitReading.{function_names, with_cases, cases_behind,
 use Rattle.ssa_text.proofs.SplitLemmas.{lines_from_case}
 
 -- the cases of a text, by where they begin
-pub cases_there : (text part : List ℕ) (names given : List (List ℕ)) (offset first : ℕ) (answer : Result CasePart TextRefusal)
+pub cases_there : (text part : List ℕ) (names given : List (List ℕ)) (offset first : ℕ)
+    (answer : Result CasePart TextRefusal)
     → offset ≡ case_offset text → first ≡ case_line text → part ≡ drop offset text → given ≡ names
     → ReadsAs answer (case_part (read_cases_from given no_cases first (lines_of part)))
     → ReadsAs answer (case_part (read_cases_from names no_cases (case_line text) (from_case (lines_of text))))
@@ -38,12 +39,14 @@ module _ (text : List ℕ) where
     with_unit : read_unit text ≡ with_cases r (cases_of r)
     with_unit = ap (λ o. cases_behind o (case_line text) (from_case (lines_of text))) read
 
-    fault_stays : (o : Result CasesRead TextRefusal) (fault : TextRefusal) → case_part o ≡ Err fault → with_cases r o ≡ Err fault
+    fault_stays : (o : Result CasesRead TextRefusal) (fault : TextRefusal) → case_part o ≡ Err fault
+        → with_cases r o ≡ Err fault
     fault_stays (Ok c) fault e = cc
     fault_stays (Err other) fault e = let same : other ≡ fault = cc in ap Err same
 
     -- and so does what refuses the cases
-    pub cases_refused : (refusal : TextRefusal) → RefusesAs refusal (case_part (cases_of r)) → RefusesAs refusal (read_unit text)
+    pub cases_refused : (refusal : TextRefusal) → RefusesAs refusal (case_part (cases_of r))
+        → RefusesAs refusal (read_unit text)
     cases_refused =
         refuses_so CasePart SsaUnit (case_part (cases_of r)) (read_unit text)
         (λ fault e. with_unit ∙ fault_stays (cases_of r) fault e)
@@ -53,7 +56,8 @@ module _ (text : List ℕ) where
         unit_or_unknown (record { sigs = r.sigs; funcs = with_whole r.funcs r.func; cases = part.cases })
         (option_or (unknown_line r) part.unknown)
 
-    part_stays : (o : Result CasesRead TextRefusal) (part : CasePart) → case_part o ≡ Ok part → with_cases r o ≡ unit_of_part part
+    part_stays : (o : Result CasesRead TextRefusal) (part : CasePart) → case_part o ≡ Ok part
+        → with_cases r o ≡ unit_of_part part
     part_stays (Ok c) part e = let same : part_of c ≡ part = cc in ap unit_of_part same
     part_stays (Err fault) part e = cc
 

@@ -1,5 +1,6 @@
 -- What is known of the values that lines spell.
-use Rattle.std.proofs.Common.{◌≡◌, ℕ, Bool, true, false, codes, List, [], ◌∷◌, All, Option, None, Some, IfSome, if◌then◌else◌, refl}
+use Rattle.std.proofs.Common.{◌≡◌, ℕ, Bool, true, false, codes, List, [], ◌∷◌, All, Option, None, Some, IfSome}
+use Rattle.std.proofs.Common.{if◌then◌else◌, refl}
 use Rattle.std.specs.Option.{option_map}
 use Rattle.std.specs.List.{slice_split}
 use Rattle.gossa_base.specs.declared.ids.ValueId.{ValueId}
@@ -22,7 +23,9 @@ use Rattle.ssa_lines.specs.declared.forms.ValueLine.TheVariants.{Known, UnknownO
 use Rattle.ssa_lines.specs.NumberWords.{number_word, numbers_ahead}
 use Rattle.ssa_lines.specs.Types.{is_comma, scalar_of, before_type, tuple_of, type_of_parts, type_of}
 use Rattle.ssa_lines.specs.Words.{is_same}
-use Rattle.ssa_lines.specs.ValueForms.{Extras, between, behind_mark, past, next_word, extras_ahead, aux_by, value_with, generic, generic_named, tuple_op, is_end, args_ahead, all_args, line_by_op, value_behind, value_line}
+use Rattle.ssa_lines.specs.ValueForms.{Extras, between, behind_mark, past, next_word, extras_ahead, aux_by, value_with}
+use Rattle.ssa_lines.specs.ValueForms.{generic, generic_named, tuple_op, is_end, args_ahead, all_args, line_by_op}
+use Rattle.ssa_lines.specs.ValueForms.{value_behind, value_line}
 use Rattle.ssa_text.proofs.AuxFactsLemmas.{signed_fits, NumberByRule, AuxByRule, aux_shown}
 use Rattle.ssa_lines.proofs.FormFacts.{IsValueNumber, ValueFacts}
 use Rattle.ssa_lines.proofs.NumberFactsLemmas.{InRange, IfFits, word_in_range, numbers_in_range, values_fit}

@@ -1,11 +1,13 @@
 -- The line of a value is read as that value.
-use Rattle.std.proofs.Common.{◌≡◌, ℕ, ◌+◌, ◌*◌, ◌==◌, Bool, is_some, decimal, true, false, cond, List, [], ◌∷◌, ◌++◌, map, codes, find, Option, None, Some, refl, sym, ap, ◌∙◌, arith}
+use Rattle.std.proofs.Common.{◌≡◌, ℕ, ◌+◌, ◌*◌, ◌==◌, Bool, is_some, decimal, true, false, cond, List, [], ◌∷◌, ◌++◌}
+use Rattle.std.proofs.Common.{map, codes, find, Option, None, Some, refl, sym, ap, ◌∙◌, arith}
 use Rattle.std.specs.List.{list_all}
 use Rattle.std.specs.Option.{option_map}
 use Rattle.std.specs.Str.{bytes_eq}
 use Rattle.std.proofs.lemmas.Bool.{and_parts}
 use Rattle.gossa_base.specs.declared.ids.ValueId.{ValueId}
 use Rattle.gossa_base.specs.Texts.{led, value_text}
+use Rattle.ssa_ir.specs.declared.limits.TheConstants.{MAX_ARGS}
 use Rattle.ssa_ir.specs.declared.op.Op.{Op}
 use Rattle.ssa_ir.specs.declared.func.Value.{Value}
 use Rattle.ssa_ir.specs.declared.types.Ty.{Ty}
@@ -28,17 +30,20 @@ use Rattle.ssa_lines.specs.Forms.{form_of, preds_of, block_of, blocks_of, block_
 use Rattle.ssa_lines.specs.NumberWords.{number_word}
 use Rattle.ssa_lines.specs.Steps.{◌>>=◌}
 use Rattle.ssa_lines.specs.Types.{type_of}
-use Rattle.ssa_lines.specs.ValueForms.{Extras, generic, generic_named, extras_ahead, all_args, value_of, line_by_op, value_behind, value_line}
+use Rattle.ssa_lines.specs.ValueForms.{Extras, generic, generic_named, extras_ahead, all_args, value_of, line_by_op}
+use Rattle.ssa_lines.specs.ValueForms.{value_behind, value_line}
 use Rattle.ssa_lines.specs.Words.{words_of, opens, without_last}
 use Rattle.ssa_lines.proofs.WordLemmas.{space_in_front}
 use Rattle.ssa_text.specs.Text.{type_name, type_text, aux_text}
 use Rattle.ssa_lines.proofs.FormFacts.{Spells, ValueFacts}
 use Rattle.ssa_lines.proofs.LineBytes.{IsPlainWord, plain_word_in_front, EndsWord-led}
-use Rattle.ssa_lines.proofs.NumberTexts.{value_is_word, number_word-value, words_of-values, AllPlain-values, length-values, all_args-values}
+use Rattle.ssa_lines.proofs.NumberTexts.{value_is_word, number_word-value, words_of-values, AllPlain-values}
+use Rattle.ssa_lines.proofs.NumberTexts.{length-values, all_args-values}
 use Rattle.ssa_text.proofs.AuxTexts.{ReadsAux, HasAux, aux_of, rule_read}
 use Rattle.ssa_lines.proofs.IntegerTexts.{signed_word}
 use Rattle.ssa_text.proofs.TypeTexts.{type_read, bracketed_type_is_word}
-use Rattle.ssa_lines.proofs.WordTexts.{is_short_word, short_word, IsPlainText, text_of_word, known_text, text_append, between_read, spells_text}
+use Rattle.ssa_lines.proofs.WordTexts.{is_short_word, short_word, IsPlainText, text_of_word, known_text, text_append}
+use Rattle.ssa_lines.proofs.WordTexts.{between_read, spells_text}
 
 passes_by_test : (test good : Op → Bool) (a : Op) (ops : List Op) (op : Op) → find test (a ∷ ops) ≡ Some op →
     good a ≡ true → (find test ops ≡ Some op → good op ≡ true) → (b : Bool) → test a ≡ b → good op ≡ true
@@ -194,19 +199,19 @@ module _ (v : Value) (h : ValueFacts v) where
         plain_word_in_front 8 (value_text v.id) (codes " = " ++ from_op) (value_is_word v.id h.number) refl
         ∙ ap (λ words. value_text v.id ∷ codes "=" ∷ words) words_of_op
 
-    args_are_text : IsPlainText (9 * 380) its_args
+    args_are_text : IsPlainText (9 * MAX_ARGS) its_args
     args_are_text = record {
       short = omega (arith, length-values v.args h.args, limits.args);
       plain = AllPlain-values v.args h.args;
     }
 
-    from_op_is_text : IsPlainText (15 + (518 + (103 + 9 * 380))) from_op
+    from_op_is_text : IsPlainText (15 + (518 + (103 + 9 * MAX_ARGS))) from_op
     from_op_is_text =
-        text_append 15 (518 + (103 + 9 * 380)) (op_name v.op) (type_text v.ty ++ (aux_text v ++ its_args))
+        text_append 15 (518 + (103 + 9 * MAX_ARGS)) (op_name v.op) (type_text v.ty ++ (aux_text v ++ its_args))
         (text_of_word 15 (op_name v.op) (op_is_word v.op))
-        (text_append 518 (103 + 9 * 380) (type_text v.ty) (aux_text v ++ its_args)
+        (text_append 518 (103 + 9 * MAX_ARGS) (type_text v.ty) (aux_text v ++ its_args)
         (text_append 1 517 (codes " ") its_type (known_text 1 (codes " ") refl) (text_of_word 517 its_type type_word))
-        (text_append 103 (9 * 380) (aux_text v) its_args reads.is_text args_are_text))
+        (text_append 103 (9 * MAX_ARGS) (aux_text v) its_args reads.is_text args_are_text))
 
     line_is_text : IsPlainText 4067 (value_text v.id ++ (codes " = " ++ from_op))
     line_is_text =

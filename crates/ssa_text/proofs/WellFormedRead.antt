@@ -1,8 +1,10 @@
 -- What is read is well formed.
-use Rattle.std.proofs.Common.{◌≡◌, ◌<◌, ◌≤◌, false, List, [], ◌∷◌, ◌++◌, map, get_or, All, Option, None, Some, sym, ap, ◌∙◌, subst}
+use Rattle.std.proofs.Common.{◌≡◌, ◌<◌, ◌≤◌, false, List, [], ◌∷◌, ◌++◌, map, get_or, All, Option, None, Some, sym, ap}
+use Rattle.std.proofs.Common.{◌∙◌, subst}
 use Rattle.std.proofs.lemmas.List.{append-nil, map-append, length-map}
 use Rattle.std.proofs.lemmas.List.Elements.{All-append, All-map, All-weaker}
 use Rattle.std.proofs.lemmas.Simd.{map-map}
+use Rattle.ssa_ir.specs.declared.limits.TheConstants.{MAX_BLOCKS, MAX_FUNCTIONS}
 use Rattle.ssa_ir.specs.declared.types.Sig.{Sig}
 use Rattle.ssa_ir.specs.declared.func.Block.{Block}
 use Rattle.ssa_ir.specs.declared.func.Func.{Func}
@@ -14,7 +16,8 @@ use Rattle.ssa_ir.specs.WellFormed.{Differ, WellFormedFunc, WellFormedCase, Well
 use Rattle.case_text.proofs.CaseFacts.{CasesFacts}
 use Rattle.case_text.proofs.WellFormedCases.{NamesThere, well_formed_cases}
 use Rattle.ssa_text.specs.declared.partial.OpenFunc.{OpenFunc}
-use Rattle.ssa_text.specs.Reading.{Read, has_open_block, open_name, names_given, whole, with_whole, unknown_in, unknown_line}
+use Rattle.ssa_text.specs.Reading.{Read, has_open_block, open_name, names_given, whole, with_whole, unknown_in}
+use Rattle.ssa_text.specs.Reading.{unknown_line}
 use Rattle.ssa_text.specs.UnitReading.{function_names}
 use Rattle.ssa_lines.proofs.FormFacts.{IsTextBlock}
 use Rattle.ssa_lines.proofs.LimitLemmas.{neither}
@@ -45,7 +48,7 @@ func_well_formed f well refs =
 func_within_limits : (f : Func) → FuncWell f → FuncWithinLimits f
 func_within_limits f well = record {
   values = well.values.few;
-  blocks = subst (λ n. n ≤ 1024) (length-map f.blocks (λ (b : Block). b.id)) well.ids.few;
+  blocks = subst (λ n. n ≤ MAX_BLOCKS) (length-map f.blocks (λ (b : Block). b.id)) well.ids.few;
   each_value = λ k d lt. (well.values.good k d lt).limits;
   preds = λ k d lt. (well.blocks k d lt).preds.few;
 }
@@ -102,7 +105,7 @@ well_formed_with r cases well closed known facts =
     let names = function_names r in
     let of_cases = well_formed_cases names cases facts in
     let limits : WithinLimits (unit_of r cases) = record {
-      functions = subst (λ n. n ≤ 256) (sym (whole_count r.funcs r.func)) well.counts.funcs;
+      functions = subst (λ n. n ≤ MAX_FUNCTIONS) (sym (whole_count r.funcs r.func)) well.counts.funcs;
       sigs = well.counts.sigs;
       cases = of_cases.1;
       each_signature = λ k d lt. (sigs k d lt).limits;

@@ -1,5 +1,6 @@
 -- A text that spells a unit spells a well-formed one.
-use Rattle.std.proofs.Common.{◌≡◌, ℕ, ◌+◌, ◌<◌, ◌^◌, List, [], ◌∷◌, length, map, Option, None, Some, is_some, Result, Ok, Err, IfOk, if◌then◌else◌, subst, ◌∙◌, arith}
+use Rattle.std.proofs.Common.{◌≡◌, ℕ, ◌+◌, ◌<◌, ◌^◌, List, [], ◌∷◌, length, map, Option, None, Some, is_some, Result}
+use Rattle.std.proofs.Common.{Ok, Err, IfOk, if◌then◌else◌, subst, ◌∙◌, arith}
 use Rattle.std.proofs.lemmas.List.{length-append, length-map}
 use Rattle.ssa_ir.specs.declared.func.Func.{Func}
 use Rattle.ssa_ir.specs.declared.func.SsaUnit.{SsaUnit}
@@ -38,7 +39,8 @@ few_functions text r read = omega (arith, named_count r.funcs r.func, (kept_thro
 pub well_formed_unit : (text : List ℕ) (u : SsaUnit) → read_unit text ≡ Ok u → WellFormed u
 well_formed_unit text u h =
     let p = unit_parts text u h in
-    let facts = facts_of_read (function_names p.end) (case_line text) (from_case (lines_of text)) p.cases p.cases_read p.found in
+    let facts =
+    facts_of_read (function_names p.end) (case_line text) (from_case (lines_of text)) p.cases p.cases_read p.found in
     subst WellFormed p.unit_is
     (well_formed_with p.end (all_cases p.cases) (kept_through_case text p.end p.unit_read) p.closed p.known facts)
 

@@ -8,8 +8,8 @@ use Rattle.ssa_text.specs.Reading.{Read, read_of, names_given, block_ids, values
 abbrev pub read_so_far : Gathered → Read
 read_so_far g = read_of g.sigs g.funcs g.func g.mentions g.unknown
 
--- the tables have all names that were given, and the numbers of the blocks and the values of the function that goes on, each
--- in the order of the text; and no function is whole before the first one began
+-- the tables have all names that were given, and the numbers of the blocks and the values of the function that goes on,
+-- each in the order of the text; and no function is whole before the first one began
 abbrev pub IsGathered : Gathered → Type 0
 IsGathered g =
     (g.names ≡ names_given (read_so_far g))

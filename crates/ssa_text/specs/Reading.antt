@@ -1,10 +1,13 @@
 -- What the lines of a unit in front of its cases are read as: one by one, with what was read before them.
-use Rattle.std.specs.Prelude.{ℕ, ◌+◌, ◌==◌, nat_lt, nat_eq, Bool, true, false, not, ◌&&◌, ◌||◌, if◌then◌else◌, List, [], ◌∷◌, ◌++◌, length, map, is_none, is_some, find, Option, None, Some, Result, Ok, Err}
+use Rattle.std.specs.Prelude.{ℕ, ◌+◌, ◌==◌, nat_lt, nat_eq, Bool, true, false, not, ◌&&◌, ◌||◌, if◌then◌else◌, List, []}
+use Rattle.std.specs.Prelude.{◌∷◌, ◌++◌, length, map, is_none, is_some, find, Option, None, Some, Result, Ok, Err}
 use Rattle.std.specs.Cmp.Lexicographic.{pointwise}
 use Rattle.std.specs.List.{flat_map, list_any}
 use Rattle.std.specs.Option.{option_map, option_or}
 use Rattle.gossa_base.specs.declared.ids.ValueId.{ValueId}
 use Rattle.gossa_base.specs.declared.ids.BlockId.{BlockId}
+use Rattle.ssa_ir.specs.declared.limits.TheConstants.{MAX_ARGS, MAX_BLOCKS, MAX_FUNCTIONS, MAX_LINE_BYTES, MAX_PARAMS}
+use Rattle.ssa_ir.specs.declared.limits.TheConstants.{MAX_RESULTS, MAX_SIGS, MAX_VALUES}
 use Rattle.ssa_ir.specs.declared.types.Sig.{Sig}
 use Rattle.ssa_ir.specs.declared.types.Ty.{Ty}
 use Rattle.ssa_ir.specs.declared.func.Value.{Value}
@@ -20,21 +23,26 @@ use Rattle.ssa_lines.specs.Words.{words_of}
 use Rattle.ssa_lines.specs.declared.forms.Spelled.TheVariants.{Fits, TooLarge as NotSpelled}
 use Rattle.ssa_lines.specs.declared.forms.BlockLine.{BlockLine}
 use Rattle.ssa_lines.specs.declared.forms.ControlLine.{ControlLine}
-use Rattle.ssa_lines.specs.declared.forms.ValueLine.TheVariants.{Known, UnknownOp as NoSuchOp, TooLarge as ValueTooLarge}
+use Rattle.ssa_lines.specs.declared.forms.ValueLine.TheVariants.{Known, UnknownOp as NoSuchOp}
+use Rattle.ssa_lines.specs.declared.forms.ValueLine.TheVariants.{TooLarge as ValueTooLarge}
 use Rattle.ssa_lines.specs.declared.forms.Form.{Form}
-use Rattle.ssa_lines.specs.declared.forms.Form.TheVariants.{Blank, Case, Sig as SigForm, Func as FuncForm, Block as BlockForm, Value as ValueForm, Control as ControlForm, Bad}
+use Rattle.ssa_lines.specs.declared.forms.Form.TheVariants.{Blank, Case, Sig as SigForm, Func as FuncForm}
+use Rattle.ssa_lines.specs.declared.forms.Form.TheVariants.{Block as BlockForm, Value as ValueForm}
+use Rattle.ssa_lines.specs.declared.forms.Form.TheVariants.{Control as ControlForm, Bad}
 use Rattle.ssa_text.specs.declared.partial.OpenBlock.{OpenBlock}
 use Rattle.ssa_text.specs.declared.partial.OpenFunc.{OpenFunc}
 use Rattle.ssa_text.specs.declared.partial.Named.{Named}
 use Rattle.ssa_text.specs.declared.partial.Named.TheVariants.{OfValue, OfBlock}
 use Rattle.ssa_text.specs.declared.partial.Mention.{Mention}
 use Rattle.ssa_lines.specs.declared.refusal.LimitKind.{LimitKind}
-use Rattle.ssa_lines.specs.declared.refusal.LimitKind.TheVariants.{LineBytes, Functions, Sigs, Values, Blocks, Params, Results, Args}
+use Rattle.ssa_lines.specs.declared.refusal.LimitKind.TheVariants.{LineBytes, Functions, Sigs, Values, Blocks, Params}
+use Rattle.ssa_lines.specs.declared.refusal.LimitKind.TheVariants.{Results, Args}
 use Rattle.ssa_lines.specs.declared.refusal.TextRefusal.{TextRefusal}
-use Rattle.ssa_lines.specs.declared.refusal.TextRefusal.TheVariants.{BadByte, BadLine, UnknownOp, NumberTooLarge, Duplicate, UnknownRef, Limit}
+use Rattle.ssa_lines.specs.declared.refusal.TextRefusal.TheVariants.{BadByte, BadLine, UnknownOp, NumberTooLarge}
+use Rattle.ssa_lines.specs.declared.refusal.TextRefusal.TheVariants.{Duplicate, UnknownRef, Limit}
 
--- what was read: signatures, whole functions, one that goes on, what its lines name, and the first line of a whole function that
--- names what its function doesn't have
+-- what was read: signatures, whole functions, one that goes on, what its lines name, and the first line of a whole
+-- function that names what its function doesn't have
 pub record Read : Type 0 where
   pub sigs : List Sig
   pub funcs : List Func
@@ -53,8 +61,8 @@ abbrev pub has_open_block : Option OpenFunc → Bool
 has_open_block None = false
 has_open_block (Some f) = is_some f.block
 
--- a line of this form may stand here: signatures, then functions, then cases; a function's blocks, each with its values and
--- its end
+-- a line of this form may stand here: signatures, then functions, then cases; a function's blocks, each with its values
+-- and its end
 abbrev pub in_place : Read → Form → Bool
 in_place r Blank = true
 in_place r (SigForm sig) = is_none r.func
@@ -121,22 +129,23 @@ func_count r = length r.funcs + (if is_some r.func then 1 else 0)
 
 -- the first limit that a signature passes by itself
 abbrev pub sig_limit : Sig → Option LimitKind
-sig_limit s = option_or (over 64 (length s.params) Params) (over 64 (length s.results) Results)
+sig_limit s = option_or (over MAX_PARAMS (length s.params) Params) (over MAX_RESULTS (length s.results) Results)
 
 abbrev pub tuple_length : Ty → ℕ
 tuple_length ty = length (tuple_words ty)
 
 -- the first limit that a value passes by itself
 abbrev pub value_limit : Value → Option LimitKind
-value_limit v = option_or (over 64 (tuple_length v.ty) Results) (over 380 (length v.args) Args)
+value_limit v = option_or (over MAX_RESULTS (tuple_length v.ty) Results) (over MAX_ARGS (length v.args) Args)
 
 -- the first limit that a line of this form passes, in the order of the table
 abbrev pub limit_passed : Read → Form → Option LimitKind
-limit_passed r (SigForm s) = option_or (full 1024 (length r.sigs) Sigs) (sig_limit s)
-limit_passed r (FuncForm s) = option_or (full 256 (func_count r) Functions) (sig_limit s)
+limit_passed r (SigForm s) = option_or (full MAX_SIGS (length r.sigs) Sigs) (sig_limit s)
+limit_passed r (FuncForm s) = option_or (full MAX_FUNCTIONS (func_count r) Functions) (sig_limit s)
 limit_passed r (BlockForm (Fits b)) =
-    option_or (full 1024 (length (block_ids r.func)) Blocks) (over 380 (length b.preds) Args)
-limit_passed r (ValueForm (Known v)) = option_or (full 8192 (length (values_so_far r.func)) Values) (value_limit v)
+    option_or (full MAX_BLOCKS (length (block_ids r.func)) Blocks) (over MAX_ARGS (length b.preds) Args)
+limit_passed r (ValueForm (Known v)) =
+    option_or (full MAX_VALUES (length (values_so_far r.func)) Values) (value_limit v)
 limit_passed r _ = None
 
 -- what is wrong with a line of this form, the first of all that is
@@ -151,7 +160,7 @@ fault_of_form r line last form =
 -- what is wrong with a line
 abbrev pub fault_of : Read → (line : ℕ) → (last : Bool) → List ℕ → Option TextRefusal
 fault_of r line last bytes =
-    if nat_lt 4096 (length bytes) then Some (Limit LineBytes line)
+    if nat_lt MAX_LINE_BYTES (length bytes) then Some (Limit LineBytes line)
     else if not (is_allowed bytes) then Some (BadByte line)
     else fault_of_form r line last (form_of (words_of bytes))
 
@@ -216,7 +225,8 @@ control_mention (Some id) = OfValue id ∷ []
 abbrev pub behind : Read → (line : ℕ) → Form → Read
 behind r line (SigForm s) = record r { sigs = r.sigs ++ s ∷ [] }
 behind r line (FuncForm s) =
-    read_of r.sigs (with_whole r.funcs r.func) (Some (record { sig = s; blocks = []; block = None })) [] (unknown_line r)
+    read_of r.sigs (with_whole r.funcs r.func) (Some (record { sig = s; blocks = []; block = None })) []
+    (unknown_line r)
 behind r line (BlockForm (Fits b)) =
     record r { func = change (begin_block b) r.func; mentions = mentioned r line (map OfBlock b.preds) }
 behind r line (ValueForm (Known v)) =
@@ -255,7 +265,8 @@ is_last (line ∷ lines) = false
 abbrev pub read_from : Read → (line : ℕ) → List (List ℕ) → Result Read TextRefusal
 read_from r line [] = Ok r
 read_from r line (bytes ∷ lines) =
-    then_read (fault_of r line (is_last lines) bytes) (behind r line (form_of (words_of bytes))) (λ next. read_from next (line + 1) lines)
+    then_read (fault_of r line (is_last lines) bytes) (behind r line (form_of (words_of bytes)))
+    (λ next. read_from next (line + 1) lines)
 
 -- the unit that was read, where all that is named is there
 abbrev pub unit_or_unknown : SsaUnit → Option ℕ → Result SsaUnit TextRefusal

@@ -28,8 +28,8 @@ abbrev pub cases_behind : Result Read TextRefusal → (first : ℕ) → List (Li
 cases_behind (Ok r) first lines = with_cases r (read_cases_from (function_names r) no_cases first lines)
 cases_behind (Err fault) first lines = Err fault
 
--- the unit that a text spells, or its first fault. The first line of a case is looked at twice: it must have its place behind
--- the functions, and then begins a case
+-- the unit that a text spells, or its first fault. The first line of a case is looked at twice: it must have its place
+-- behind the functions, and then begins a case
 abbrev pub read_unit : List ℕ → Result SsaUnit TextRefusal
 read_unit text =
     cases_behind (read_from nothing 1 (through_case (lines_of text))) (case_line text) (from_case (lines_of text))

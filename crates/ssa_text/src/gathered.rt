@@ -3,7 +3,8 @@
 ghost use Rattle.std.specs.Prelude.{◌≡◌, ◌==◌, ◌++◌, ◌∷◌, [], map, OnOk, IfOk, true, false};
 ghost use Rattle.std.specs.List.{list_any};
 ghost use Rattle.ssa_lines.specs.Words.{is_same};
-ghost use Rattle.ssa_lines.specs.declared.forms.Form.TheVariants.{Sig as SigForm, Func as FuncForm, Block as BlockForm, Value as ValueForm, Control as ControlForm};
+ghost use Rattle.ssa_lines.specs.declared.forms.Form.TheVariants.{Sig as SigForm, Func as FuncForm, Block as BlockForm};
+ghost use Rattle.ssa_lines.specs.declared.forms.Form.TheVariants.{Value as ValueForm, Control as ControlForm};
 ghost use Rattle.ssa_lines.specs.declared.forms.Spelled.TheVariants.{Fits};
 ghost use Rattle.ssa_lines.specs.declared.forms.ValueLine.TheVariants.{Known};
 ghost use Rattle.ssa_text.specs.declared.partial.Named.TheVariants.{OfValue, OfBlock};

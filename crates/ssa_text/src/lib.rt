@@ -1,9 +1,9 @@
 //! The text of units, in the form of Go's SSA dumps.
 //!
 //! [`read_unit`] reads a text line by line: what a line spells by itself is `ssa_lines`' to say, and here it meets what
-//! was read before it. A text is a unit, or is refused at its first line with a fault, for the first fault of that line.
-//! [`print_unit`] gives the one canonical text of a unit, and [`print_cases`] that of its cases alone: no indentation,
-//! one space between words, each line ended by LF. A unit that was read reads back from its canonical text
+//! was read before it. A text is a unit, or is refused at its first line with a fault, for the first fault of that
+//! line. [`print_unit`] gives the one canonical text of a unit, and [`print_cases`] that of its cases alone: no
+//! indentation, one space between words, each line ended by LF. A unit that was read reads back from its canonical text
 //! ([`laws::printed_units_read_back`]).
 //!
 //! ```text

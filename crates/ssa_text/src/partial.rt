@@ -1,7 +1,8 @@
 // What a reader has of a function whose lines go on.
 
 ghost use Rattle.std.specs.Prelude.{◌≡◌, IfOk, OnOk};
-ghost use Rattle.ssa_text.specs.Reading.{change, begin_block, add_value, value_behind, end_block, whole_block, with_whole};
+ghost use Rattle.ssa_text.specs.Reading.{change, begin_block, add_value, value_behind, end_block, whole_block};
+ghost use Rattle.ssa_text.specs.Reading.{with_whole};
 
 use gossa_base::{BlockId, NoMemory, Sequence, ValueId};
 use ssa_ir::{Block, BlockIds, Blocks, Func, Funcs, Sig, Value, Values};

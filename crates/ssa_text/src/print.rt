@@ -3,7 +3,10 @@
 ghost use Rattle.std.specs.Prelude.{◌≡◌, ◌++◌, OnOk, IfOk};
 ghost use Rattle.std.specs.List.{flat_map};
 ghost use Rattle.case_text.specs.CaseText.{cases_text, name_at};
-ghost use Rattle.ssa_text.specs.Text.{before_commas, type_name, type_text, bool_word, brackets_text, name_or_none, scalar_or_none, braces_text, aux_text, behind_op, value_line, preds_text, control_text, succ_text, choice_text, end_text, block_head, control_line, block_lines, func_text, func_names, unit_text};
+ghost use Rattle.ssa_text.specs.Text.{before_commas, type_name, type_text, bool_word, brackets_text, name_or_none};
+ghost use Rattle.ssa_text.specs.Text.{scalar_or_none, braces_text, aux_text, behind_op, value_line, preds_text};
+ghost use Rattle.ssa_text.specs.Text.{control_text, succ_text, choice_text, end_text, block_head, control_line};
+ghost use Rattle.ssa_text.specs.Text.{block_lines, func_text, func_names, unit_text};
 
 use case_text::print_case;
 use gossa_base::{

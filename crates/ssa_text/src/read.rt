@@ -14,18 +14,18 @@ use crate::reader::Reader;
 use crate::split::{is_case_line, split_cases};
 use case_text::{CasePart, read_case_part};
 use ssa_ir::SsaUnit;
+use ssa_ir::limits::MAX_LINE_BYTES;
 use ssa_lines::{Form, LimitKind, TextLines, TextRefusal, is_allowed, read_form};
 use std::alloc::Global;
 
 /// How many bytes a line may have.
-const LINE_BYTES: usize = 4096;
 
 /// The unit that a text spells, or its first fault.
 ///
-/// The lines are looked at in order, and of what is wrong with one the first of these is told: a line that is too long, a
-/// bad byte, a line of no form or out of place, an unknown op, a number out of range, a number, a name or a line given
-/// twice that stands once, a limit. Only where no line has any of these, the first line that names a value, a block or a
-/// function that isn't there.
+/// The lines are looked at in order, and of what is wrong with one the first of these is told: a line that is too long,
+/// a bad byte, a line of no form or out of place, an unknown op, a number out of range, a number, a name or a line
+/// given twice that stands once, a limit. Only where no line has any of these, the first line that names a value, a
+/// block or a function that isn't there.
 ///
 /// # Errors
 /// The first fault, with its line from 1, or want of memory.
@@ -44,7 +44,8 @@ fn read_cases_behind(alloc: Global, text: &[u8], reader: &Reader) -> Result<Case
     requires few { length text.now ≤ 2 ^ 30 }
     requires few_names { length (unit.function_names reader.now) < 2 ^ 32 }
     ensures { ReadsAs result (case_part
-        (read_cases_from (unit.function_names reader.now) no_cases (case_line text.now) (from_case (lines_of text.now)))) }
+        (read_cases_from (unit.function_names reader.now) no_cases (case_line text.now)
+        (from_case (lines_of text.now)))) }
 {
     let (offset, first_line) = split_cases(text);
     let names = reader.function_names(alloc)?;
@@ -104,7 +105,7 @@ fn checked_form(
 ) -> Result<Form, TextRefusal>
     ensures { ReadsAs result (spec.checked_form reader.now number last line.now) }
 {
-    if LINE_BYTES < line.len() {
+    if MAX_LINE_BYTES < line.len() {
         return Err(TextRefusal::Limit(LimitKind::LineBytes, number));
     }
     if !is_allowed(line) {

@@ -11,6 +11,9 @@ use crate::gathered::{Gathered, same_name};
 use crate::partial::{OpenFunc, put_whole};
 use case_text::CasePart;
 use gossa_base::{Name, NoMemory, Sequence};
+use ssa_ir::limits::{
+    MAX_ARGS, MAX_BLOCKS, MAX_FUNCTIONS, MAX_PARAMS, MAX_RESULTS, MAX_SIGS, MAX_VALUES,
+};
 use ssa_ir::{Func, Sig, SsaUnit, Ty, Value};
 use ssa_lines::{Form, LimitKind, NameSet, NumberSet, Spelled, TextRefusal, ValueLine};
 use std::alloc::Global;
@@ -115,19 +118,21 @@ impl Reader {
         ensures { result ≡ spec.limit_passed self.now form.now }
     {
         match form {
-            Form::Sig(sig) => full(1024, self.gathered.sigs.len(), LimitKind::Sigs).or(sig_limit(
-                sig,
-            )),
+            Form::Sig(sig) => full(MAX_SIGS, self.gathered.sigs.len(), LimitKind::Sigs).or(
+                sig_limit(sig),
+            ),
             Form::Func(sig) => {
-                full(256, self.func_count(), LimitKind::Functions).or(sig_limit(sig))
+                full(MAX_FUNCTIONS, self.func_count(), LimitKind::Functions).or(sig_limit(sig))
             }
             Form::Block(Spelled::Fits(block)) => full(
-                1024,
+                MAX_BLOCKS,
                 self.gathered.blocks.len(),
                 LimitKind::Blocks,
-            ).or(over(380, block.preds.len(), LimitKind::Args)),
+            ).or(over(MAX_ARGS, block.preds.len(), LimitKind::Args)),
             Form::Value(ValueLine::Known(value)) => {
-                full(8192, self.gathered.values.len(), LimitKind::Values).or(value_limit(value))
+                full(MAX_VALUES, self.gathered.values.len(), LimitKind::Values).or(value_limit(
+                    value,
+                ))
             }
             _ => None,
         }
@@ -249,8 +254,8 @@ fn over(limit: usize, count: usize, kind: LimitKind) -> Option<LimitKind>
 fn sig_limit(sig: &Sig) -> Option<LimitKind>
     ensures { result ≡ spec.sig_limit sig.now }
 {
-    over(64, sig.params.len(), LimitKind::Params).or(over(
-        64,
+    over(MAX_PARAMS, sig.params.len(), LimitKind::Params).or(over(
+        MAX_RESULTS,
         sig.results.len(),
         LimitKind::Results,
     ))
@@ -260,8 +265,8 @@ fn sig_limit(sig: &Sig) -> Option<LimitKind>
 fn value_limit(value: &Value) -> Option<LimitKind>
     ensures { result ≡ spec.value_limit value.now }
 {
-    over(64, tuple_words(&value.ty), LimitKind::Results).or(over(
-        380,
+    over(MAX_RESULTS, tuple_words(&value.ty), LimitKind::Results).or(over(
+        MAX_ARGS,
         value.args.as_slice().len(),
         LimitKind::Args,
     ))

@@ -9,4 +9,5 @@ overflow_sub-result-2 c =
     omega (arith, c.low.ensures, mod_below c.args.a (2 ^ k) (pow_pos k), low_mask k c.requires.at_most_all)
 
 pub returns : goal.returns
-returns c = ap (λ n. n - c.low.result) (low_mask c.args.k c.requires.at_most_all) ∙ ap (λ n. 2 ^ c.args.k - 1 - n) c.low.ensures
+returns c =
+    ap (λ n. n - c.low.result) (low_mask c.args.k c.requires.at_most_all) ∙ ap (λ n. 2 ^ c.args.k - 1 - n) c.low.ensures

@@ -13,7 +13,8 @@ loop-row-preserved c =
     let after : List ℕ = c.next.new.self.rest.now in
     let line : List ℕ → List ℕ = words_line c.args.keyword.now in
     let size = c.loop-row.invariant.0 in
-    let parts : (before ≡ row ++ after) × (length row ≡ min c.loop-row.row-iterator.size (length before)) × (0 < length before) = step.1 in
+    let parts : (before ≡ row ++ after) × (length row ≡ min c.loop-row.row-iterator.size (length before))
+    × (0 < length before) = step.1 in
     let joined : before ≡ row ++ after = parts.0 in
     let some : 0 < length before = parts.2 in
     let full : length row ≡ min 16 (length before) = parts.1 ∙ ap (λ n. min n (length before)) size in

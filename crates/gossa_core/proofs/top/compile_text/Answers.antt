@@ -3,7 +3,7 @@ use Rattle.std.proofs.lemmas.Result.{err_from_is_err_and}
 use Rattle.std.specs.List.{All}
 use Rattle.ssa_text.specs.UnitReading.{read_unit}
 use Rattle.gossa_core.specs.declared.words.Command.TheVariants.{Compile}
-use Rattle.gossa_core.specs.Narrow.{Narrow}
+use Rattle.sum_compile.specs.Narrow.{Narrow}
 use Rattle.gossa_core.specs.Unmade.{Unmade}
 use Rattle.gossa_core.proofs.CompileLemmas.{same_show}
 use Rattle.gossa_core.proofs.top.compile_text.Goals as goal
@@ -15,7 +15,9 @@ returns-in-Ok-clause-made c =
     subst (All Narrow) c.as_slice.ensures (c.all_narrow.ensures.0 c.if-not-all_narrow.false) in
     record {
       unit = unit;
-      read = subst (λ u. read_unit c.args.text.now ≡ Ok u) (sym c.into_unit-unit.ensures.unit) c.in_ok-checked.ensures.spelled;
+      read =
+          subst (λ u. read_unit c.args.text.now ≡ Ok u) (sym c.into_unit-unit.ensures.unit)
+          c.in_ok-checked.ensures.spelled;
       accepted = c.into_unit-unit.ensures.accepted;
       narrow = narrow;
       listed = c.in-Ok.ensures;

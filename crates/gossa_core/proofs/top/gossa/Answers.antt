@@ -20,4 +20,5 @@ returns-clause-complete g c =
       held = sink.held c.answer-outcome.new.sink;
       write_faults = sink.faults c.answer-outcome.new.sink;
     } in
-    complete (map string_bytes c.args.words.now) before after c.status.result c.answer-outcome.result c.status.ensures c.answer-outcome.ensures
+    complete (map string_bytes c.args.words.now) before after c.status.result c.answer-outcome.result c.status.ensures
+    c.answer-outcome.ensures

@@ -6,4 +6,5 @@ use Rattle.graphs.proofs.loops.is_ordered.Given as goal
 
 -- no edge of the nodes so far leads to a lower rank
 abbrev pub invariant-loop-node : goal.invariant-loop-node
-invariant-loop-node l = (u : ℕ) → u < l.node → list_all (is_at_or_above l.ranks (get_or l.ranks u 0)) (targets l.graph u) ≡ true
+invariant-loop-node l =
+    (u : ℕ) → u < l.node → list_all (is_at_or_above l.ranks (get_or l.ranks u 0)) (targets l.graph u) ≡ true

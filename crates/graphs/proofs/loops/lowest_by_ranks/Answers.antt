@@ -14,7 +14,8 @@ returns-in_default-clause-least c =
 
 pub comes_back-requires : goal.comes_back-requires
 comes_back-requires c =
-    staying_within (length c.args.graph.now) c.args.graph.now c.args.ranks.now c.args.names.now c.in-Some.lowest c.requires.nodes
+    staying_within (length c.args.graph.now) c.args.graph.now c.args.ranks.now c.args.names.now c.in-Some.lowest
+    c.requires.nodes
     c.in-Some.ensures
 
 pub returns-then-branch-clause-least : goal.returns-then-branch-clause-least
@@ -28,6 +29,7 @@ returns-then-branch-clause-least c =
 pub returns-clause-exact : goal.returns-clause-exact
 returns-clause-exact c = λ lowest shows.
     let back : ComesBack c.args.graph.now c.in-Some.lowest.node =
-    subst (λ o. IfSome o (λ x. ComesBack c.args.graph.now x.node)) (sym (c.in-Some.ensures ∙ shows.is_lowest)) shows.back in
+    subst (λ o. IfSome o (λ x. ComesBack c.args.graph.now x.node)) (sym (c.in-Some.ensures ∙ shows.is_lowest))
+    shows.back in
     let yes_back : c.in_ok-comes_back.field-0 ≡ true = c.in_ok-comes_back.ensures.1 back in
     cc

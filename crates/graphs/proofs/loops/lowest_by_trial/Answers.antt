@@ -19,7 +19,8 @@ loop-name-preserved c =
     elim c.if-branch.branch [
       | then-branch w ↦
           subst (LeastOnLoop graph (take (i + 1) names))
-          (ap (λ b. lower_if b c.loop-name.lowest (get_or names i d)) w.if-branch.true ∙ sym (w.lowest-is ∙ w.lower-lowest.ensures)) more
+          (ap (λ b. lower_if b c.loop-name.lowest (get_or names i d)) w.if-branch.true
+          ∙ sym (w.lowest-is ∙ w.lower-lowest.ensures)) more
       | else-branch w ↦
           subst (LeastOnLoop graph (take (i + 1) names))
           (ap (λ b. lower_if b c.loop-name.lowest (get_or names i d)) w.if-branch.false ∙ sym w.lowest-is) more

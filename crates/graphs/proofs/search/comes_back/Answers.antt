@@ -14,7 +14,8 @@ loop-node-init c =
     let within : All (λ v. v < length graph) (targets graph c.args.start) =
     subst (All (λ v. v < length graph)) value c.targets.ensures.within in
     let empty : c.in_ok-search.search ≡ nothing (length graph) = c.in_ok-search.ensures ∙ ap nothing c.len.ensures in
-    let reached : c.reach_all.new.self ≡ reach_all c.in_ok-search.search c.targets.result.now = c.in_ok-reach_all.ensures in
+    let reached : c.reach_all.new.self ≡ reach_all c.in_ok-search.search c.targets.result.now =
+    c.in_ok-reach_all.ensures in
     subst (Searches graph c.args.start)
     (sym (reached ∙ ap (λ s. reach_all s c.targets.result.now) empty ∙ ap (reach_all (nothing (length graph))) value))
     (begins graph c.args.start within)
@@ -35,8 +36,10 @@ loop-node-smaller c =
     let within : All (λ v. v < length graph) (targets graph c.in-Some.node) =
     subst (All (λ v. v < length graph)) value c.targets-in-Some.ensures.within in
     let seen : c.next.new.self.seen ≡ c.loop-node.search.seen = c.in-Some.ensures.seen in
-    let reached : c.reach_all-in-Some.new.self ≡ reach_all c.next.new.self c.targets-in-Some.result.now = c.in_ok-reach_all-2.ensures in
-    let grows : Grows c.next.new.self (reach_all c.next.new.self (targets graph c.in-Some.node)) (targets graph c.in-Some.node) =
+    let reached : c.reach_all-in-Some.new.self ≡ reach_all c.next.new.self c.targets-in-Some.result.now =
+    c.in_ok-reach_all-2.ensures in
+    let grows : Grows c.next.new.self (reach_all c.next.new.self (targets graph c.in-Some.node))
+    (targets graph c.in-Some.node) =
     follow_grows graph c.in-Some.node c.loop-node.search c.next.new.self seen within c.loop-node.invariant.nodes in
     let same : work c.reach_all-in-Some.new.self ≡ work c.next.new.self =
     ap work (reached ∙ ap (reach_all c.next.new.self) value) ∙ grows.same_work in
@@ -49,9 +52,11 @@ loop-node-preserved c =
     let value : c.targets-in-Some.result.now ≡ targets graph c.in-Some.node = c.targets-in-Some.ensures.value in
     let within : All (λ v. v < length graph) (targets graph c.in-Some.node) =
     subst (All (λ v. v < length graph)) value c.targets-in-Some.ensures.within in
-    let reached : c.reach_all-in-Some.new.self ≡ reach_all c.next.new.self c.targets-in-Some.result.now = c.in_ok-reach_all-2.ensures in
+    let reached : c.reach_all-in-Some.new.self ≡ reach_all c.next.new.self c.targets-in-Some.result.now =
+    c.in_ok-reach_all-2.ensures in
     subst (Searches graph c.args.start) (sym (reached ∙ ap (reach_all c.next.new.self) value))
-    (follows graph c.args.start c.in-Some.node c.loop-node.search c.next.new.self c.in-Some.ensures.seen taken c.if-node-start.false within
+    (follows graph c.args.start c.in-Some.node c.loop-node.search c.next.new.self c.in-Some.ensures.seen taken
+    c.if-node-start.false within
     c.loop-node.invariant)
 
 pub returns : goal.returns

@@ -6,5 +6,5 @@ use Rattle.ssa_check.proofs.callees.have_types.Given as goal
 -- the values left have their classes exactly where all values have
 abbrev pub invariant-loop-i : goal.invariant-loop-i
 invariant-loop-i l =
-    are (classes_of l.func (drop l.i l.ids)) (classes (drop l.i l.types))
-    ≡ are (classes_of l.func l.ids) (classes l.types)
+    are (classes_of l.tables (drop l.i l.ids)) (classes (drop l.i l.types))
+    ≡ are (classes_of l.tables l.ids) (classes l.types)

@@ -4,19 +4,26 @@ use Rattle.std.specs.Option.{option_map}
 use Rattle.std.proofs.lemmas.Bool.{eqb-true}
 use Rattle.ssa_check.specs.ChainLinks.{chain_end, leaves_by, links_of}
 use Rattle.ssa_check.specs.ChainTables.{LeavesOf}
-use Rattle.ssa_check.specs.MemoryChains.{begins_memory, has_definer, is_definer, is_memory_phi}
+use Rattle.ssa_ir.specs.WellFormed.{WellFormedFunc}
+use Rattle.ssa_ir.specs.MemoryChains.{begins_memory, has_definer, is_definer, is_memory_phi}
 use Rattle.ssa_check.proofs.ChainWalkLemmas.{leaves_chain, leaves_first, some_there}
 use Rattle.ssa_check.proofs.chains.block_leaves.Goals as goal
 
 pub returns-then-is_empty : goal.returns-then-is_empty
 returns-then-is_empty c =
-    let f = c.args.func.now in
+    let f = c.args.tables.now in
     let b = c.args.block.now in
     let values = c.as_slice-values.ensures in
     let has : has_definer b ≡ true
     = sym (c.has_definer.ensures ∙ ap (λ vs. list_any is_definer vs) values) ∙ c.if-not-has_definer.false in
     let phi : length (filter is_memory_phi b.values) ≤ 1
-    = omega (arith, c.if-memory_phis-gt1.false, c.memory_phis.ensures, ap (λ vs. length (filter is_memory_phi vs)) values) in
+    = omega (
+      arith,
+      c.if-memory_phis-gt1.false,
+      c.memory_phis.ensures,
+      ap (λ vs. length (filter is_memory_phi vs))
+          values,
+    ) in
     let none : length c.in_ok-found.found.items ≡ 0
     = omega (
       arith,
@@ -30,13 +37,21 @@ returns-then-is_empty c =
 
 pub returns : goal.returns
 returns c =
-    let f = c.args.func.now in
+    let f = c.args.tables.now in
+    let well : WellFormedFunc f =
+    subst WellFormedFunc c.func-well_formed.ensures.func c.func-well_formed.ensures.well_formed in
     let b = c.args.block.now in
     let values = c.as_slice-values.ensures in
     let has : has_definer b ≡ true
     = sym (c.has_definer.ensures ∙ ap (λ vs. list_any is_definer vs) values) ∙ c.if-not-has_definer.false in
     let phi : length (filter is_memory_phi b.values) ≤ 1
-    = omega (arith, c.if-memory_phis-gt1.false, c.memory_phis.ensures, ap (λ vs. length (filter is_memory_phi vs)) values) in
+    = omega (
+      arith,
+      c.if-memory_phis-gt1.false,
+      c.memory_phis.ensures,
+      ap (λ vs. length (filter is_memory_phi vs))
+          values,
+    ) in
     let some : 0 < length c.in_ok-found.found.items
     = omega (
       arith,
@@ -47,4 +62,4 @@ returns c =
     let last : c.in_ok-chain_end.field-0 ≡ chain_end (links_of f b.values)
     = c.in_ok-chain_end.ensures ∙ ap chain_end (c.as_slice.ensures.value ∙ found) in
     subst (λ l. LeavesOf f b l) (sym (c.leaves-2.ensures ∙ ap leaves_by last))
-    (leaves_chain f c.requires.well_formed b c.requires.of_block has phi (omega (arith, some, ap length found)))
+    (leaves_chain f well b c.requires.of_block has phi (omega (arith, some, ap length found)))

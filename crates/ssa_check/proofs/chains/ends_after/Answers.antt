@@ -4,7 +4,8 @@ use Rattle.ssa_check.proofs.chains.ends_after.Goals as goal
 
 pub loop-preserved : goal.loop-preserved
 loop-preserved c =
-    sym (one_step c.args.taken.now.entries c.args.steps c.loop.counter c.loop.id (Some c.in-Some.before) c.loop-test.true
+    sym (one_step c.args.taken.now.entries c.args.steps c.loop.counter c.loop.id (Some c.in-Some.before)
+    c.loop-test.true
     (sym c.in-Some.is ∙ c.link_before.ensures))
     ∙ c.loop.invariant
 
@@ -17,6 +18,7 @@ returns-in-None c =
 pub returns : goal.returns
 returns c =
     none_is c.link_before-2.result c.is_none.result c.is_none.ensures
-    ∙ sym (no_step c.args.taken.now.entries c.args.steps c.loop.counter c.loop.id c.link_before-2.result c.loop-test.false
+    ∙ sym (no_step c.args.taken.now.entries c.args.steps c.loop.counter c.loop.id c.link_before-2.result
+    c.loop-test.false
     c.link_before-2.ensures)
     ∙ c.loop.invariant

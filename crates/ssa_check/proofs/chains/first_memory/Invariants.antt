@@ -1,5 +1,5 @@
 use Rattle.std.proofs.Common.{◌≡◌, drop, find}
-use Rattle.ssa_check.specs.MemoryChains.{begins_memory}
+use Rattle.ssa_ir.specs.MemoryChains.{begins_memory}
 use Rattle.ssa_check.proofs.chains.first_memory.Given as goal
 
 -- the first of all is the first of those left

@@ -1,6 +1,6 @@
 use Rattle.std.proofs.Common.{◌≡◌, drop}
 use Rattle.std.specs.List.{list_any}
-use Rattle.ssa_check.specs.MemoryChains.{is_definer}
+use Rattle.ssa_ir.specs.MemoryChains.{is_definer}
 use Rattle.ssa_check.proofs.chains.has_definer.Given as goal
 
 -- a definer is among all values where one is among those left

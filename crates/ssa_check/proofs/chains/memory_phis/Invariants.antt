@@ -1,5 +1,5 @@
 use Rattle.std.proofs.Common.{◌≡◌, ◌+◌, ◌≤◌, drop, filter, length}
-use Rattle.ssa_check.specs.MemoryChains.{is_memory_phi}
+use Rattle.ssa_ir.specs.MemoryChains.{is_memory_phi}
 use Rattle.ssa_check.proofs.chains.memory_phis.Given as goal
 
 -- those so far and those left are all

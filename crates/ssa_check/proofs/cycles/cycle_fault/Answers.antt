@@ -6,5 +6,6 @@ use Rattle.ssa_check.proofs.cycles.cycle_fault.Goals as goal
 
 pub returns : goal.returns
 returns c = λ u.
-    subst (λ found. MatchOption found (Meets Cycle u c.args.func.now) (LeastPlace Cycle u c.args.func.now)) (sym c.value_place.ensures)
-    (cycle_place u c.args.func.now c.in_ok-lowest.lowest c.in_ok-lowest.ensures)
+    subst (λ found. MatchOption found (Meets Cycle u c.args.tables.now) (LeastPlace Cycle u c.args.tables.now))
+    (sym c.value_place.ensures)
+    (cycle_place u c.args.tables.now c.in_ok-lowest.lowest c.in_ok-lowest.ensures)

@@ -4,4 +4,9 @@ use Rattle.ssa_check.proofs.edges.common_len.Goals as goal
 
 pub returns-else-len-right : goal.returns-else-len-right
 returns-else-len-right c =
-    omega (arith, c.loop-len.invariant.2, right_ends c.loop-len.len c.args.left.now c.args.right.now c.if-len-right.false)
+    omega (
+      arith,
+      c.loop-len.invariant.2,
+      right_ends c.loop-len.len c.args.left.now c.args.right.now
+          c.if-len-right.false,
+    )

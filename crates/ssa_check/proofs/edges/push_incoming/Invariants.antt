@@ -5,4 +5,5 @@ use Rattle.ssa_check.proofs.edges.push_incoming.Given as goal
 abbrev pub invariant-loop-predecessor : goal.invariant-loop-predecessor
 invariant-loop-predecessor l =
     l.edges.items
-    ≡ l.fn.edges.items ++ map (λ s. record { target = l.block.id.n; source = s.n }) (take l.predecessor-index l.predecessor-items)
+    ≡ l.fn.edges.items ++ map (λ s. record { target = l.block.id.n; source = s.n })
+    (take l.predecessor-index l.predecessor-items)

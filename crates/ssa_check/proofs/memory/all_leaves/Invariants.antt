@@ -6,4 +6,4 @@ use Rattle.ssa_check.proofs.memory.all_leaves.Given as goal
 -- what the blocks so far leave
 abbrev pub invariant-loop-block : goal.invariant-loop-block
 invariant-loop-block l =
-    (length l.leaves.items ≡ l.block-index) × EachOf (LeavesOf l.func) l.func.blocks l.leaves.items
+    (length l.leaves.items ≡ l.block-index) × EachOf (LeavesOf l.tables) l.tables.blocks l.leaves.items

@@ -5,4 +5,4 @@ use Rattle.ssa_check.proofs.memory.block_memories.Given as goal
 -- what is found of the blocks so far
 abbrev pub invariant-loop-index : goal.invariant-loop-index
 invariant-loop-index l =
-    (length l.memories.items ≡ l.index) × EachOf (IsMemoryOf l.func) l.func.blocks l.memories.items
+    (length l.memories.items ≡ l.index) × EachOf (IsMemoryOf l.tables) l.tables.blocks l.memories.items

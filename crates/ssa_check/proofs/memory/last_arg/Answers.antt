@@ -1,6 +1,6 @@
 use Rattle.std.proofs.Common.{◌-◌, List, length, slice_get, ap, ◌∙◌}
 use Rattle.gossa_base.specs.declared.ids.ValueId.{ValueId}
-use Rattle.ssa_check.proofs.ItemSteps.{last_is}
+use Rattle.gossa_base.proofs.ListPlaces.{last_is}
 use Rattle.ssa_check.proofs.memory.last_arg.Goals as goal
 
 pub returns : goal.returns

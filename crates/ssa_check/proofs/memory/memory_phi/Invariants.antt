@@ -1,5 +1,5 @@
 use Rattle.std.proofs.Common.{◌≡◌, drop}
-use Rattle.ssa_check.specs.MemoryChains.{is_memory_phi}
+use Rattle.ssa_ir.specs.MemoryChains.{is_memory_phi}
 use Rattle.ssa_check.specs.MemoryTables.{first_number}
 use Rattle.ssa_check.proofs.memory.memory_phi.Given as goal
 

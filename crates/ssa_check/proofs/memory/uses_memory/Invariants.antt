@@ -1,8 +1,7 @@
 use Rattle.std.proofs.Common.{◌≡◌, ◌||◌, drop}
 use Rattle.std.specs.List.{list_any}
-use Rattle.ssa_ir.specs.FirstOrder.{reads_memory}
-use Rattle.ssa_check.specs.BlockChecks.{is_result}
-use Rattle.ssa_check.specs.MemoryChains.{is_inner}
+use Rattle.ssa_ir.specs.OpKinds.{reads_memory, is_result}
+use Rattle.ssa_ir.specs.MemoryChains.{is_inner}
 use Rattle.ssa_check.proofs.memory.uses_memory.Given as goal
 
 -- some value left uses memory where some value of all does

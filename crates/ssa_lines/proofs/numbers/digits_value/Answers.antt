@@ -14,14 +14,18 @@ loop-byte-init c =
 pub returns-in_err-digit_in : goal.returns-in_err-digit_in
 returns-in_err-digit_in c =
     let n : ℕ = c.loop-byte.invariant.0 in
-    let none = no_digit c.args.base n c.args.digits.now c.loop-byte.byte-index _ c.loop-byte-test.true (sym c.in_err-digit_in.ensures) in
+    let none =
+    no_digit c.args.base n c.args.digits.now c.loop-byte.byte-index _ c.loop-byte-test.true
+    (sym c.in_err-digit_in.ensures) in
     c.from_residual.ensures ∙ sym (ap (option_map counted) (c.loop-byte.invariant.2 ∙ none))
 
 pub loop-byte-preserved : goal.loop-byte-preserved
 loop-byte-preserved c =
     let n : ℕ = c.loop-byte.invariant.0 in
     let v : ℕ = c.in_ok-digit_in.field-0 in
-    let more = more_digits c.args.base n c.args.digits.now c.loop-byte.byte-index _ v c.loop-byte-test.true (sym c.in_ok-digit_in.ensures) in
+    let more =
+    more_digits c.args.base n c.args.digits.now c.loop-byte.byte-index _ v c.loop-byte-test.true
+    (sym c.in_ok-digit_in.ensures) in
     (n * c.args.base + v, c.with_digit-count.ensures n c.loop-byte.invariant.1, c.loop-byte.invariant.2 ∙ more)
 
 pub returns : goal.returns

@@ -2,12 +2,12 @@ use Rattle.std.proofs.Common.{◌∙◌, ap, slice_get, sym}
 use Rattle.std.specs.Option.{option_copied}
 use Rattle.ssa_ir.specs.Edges.{place_of_time, times_before}
 use Rattle.ssa_meaning.proofs.ReadyLemmas.{arrives_at, goes_nowhere}
-use Rattle.ssa_meaning.proofs.SliceLemmas.{item_copied}
+use Rattle.gossa_base.proofs.ListPlaces.{item_copied}
 use Rattle.ssa_meaning.proofs.ready.way_to.Goals as goal
 
 pub returns-in_default : goal.returns-in_default
 returns-in_default c =
-    goes_nowhere c.args.func.now c.args.source.now c.args.place c.args.id c.requires.stands c.args.table.now.names.keys
+    goes_nowhere c.args.func.now c.args.source.now c.args.place c.args.id c.requires.stands c.args.table.now
     c.requires.table c.index-block.result c.index-block.ensures
     (ap option_copied (sym c.in_default.is)
     ∙ item_copied c.as_slice.result.now c.index-block.result c.get.result c.get.ensures.lookup
@@ -15,7 +15,7 @@ returns-in_default c =
 
 pub returns : goal.returns
 returns c =
-    arrives_at c.args.func.now c.args.source.now c.args.place c.args.id c.requires.stands c.args.table.now.names.keys
+    arrives_at c.args.func.now c.args.source.now c.args.place c.args.id c.requires.stands c.args.table.now
     c.requires.table c.index-block.result c.index-block.ensures c.in-Some.target.now
     (ap option_copied (sym c.in-Some.is)
     ∙ item_copied c.as_slice.result.now c.index-block.result c.get.result c.get.ensures.lookup

@@ -22,5 +22,6 @@ take-requires-clause-once c =
 
 pub returns : goal.returns
 returns c =
-    form_taken c.args.reader c.args.number c.args.last c.args.line.now c.in_ok-form.form c.in_ok-form.ensures c.in_ok-take.field-0
+    form_taken c.args.reader c.args.number c.args.last c.args.line.now c.in_ok-form.form c.in_ok-form.ensures
+    c.in_ok-take.field-0
     c.in_ok-take.ensures

@@ -37,10 +37,12 @@ pub returns-in_err-reader-clause-exact : goal.returns-in_err-reader-clause-exact
 returns-in_err-reader-clause-exact c =
     let l = c.loop-line in
     let p = err_from_is_err_and c.from_residual.result c.from_residual.ensures.1 in
-    let refused = refused_there c.args.text.now l.reader l.number l.lines c.next.new.self c.in-Some.line.now c.is_last-last.result
+    let refused =
+    refused_there c.args.text.now l.reader l.number l.lines c.next.new.self c.in-Some.line.now c.is_last-last.result
     c.is_case_line-in_cases.result l.invariant c.in-Some.ensures c.is_case_line-in_cases.ensures c.is_last-last.ensures
     c.in_err-reader.field-0.0 c.in_err-reader.ensures in
-    rw p.1 (subst (λ refusal. RefusesAs refusal (read_from nothing 1 (through_case (lines_of c.args.text.now)))) (sym p.2) refused)
+    rw p.1 (subst (λ refusal. RefusesAs refusal (read_from nothing 1 (through_case (lines_of c.args.text.now))))
+    (sym p.2) refused)
 
 pub returns-clause-whole : goal.returns-clause-whole
 returns-clause-whole c =

@@ -15,7 +15,8 @@ returns-in_err-reader-clause-exact c =
 pub returns-in_err-cases-clause-exact : goal.returns-in_err-cases-clause-exact
 returns-in_err-cases-clause-exact c =
     let p = err_from_is_err_and c.from_residual-in_err-cases.result c.from_residual-in_err-cases.ensures.1 in
-    let refused = cases_refused c.args.text.now c.in_ok-reader.reader c.in_ok-reader.ensures.exact c.in_err-cases.field-0.0
+    let refused =
+    cases_refused c.args.text.now c.in_ok-reader.reader c.in_ok-reader.ensures.exact c.in_err-cases.field-0.0
     c.in_err-cases.ensures in
     rw p.1 (subst (λ refusal. RefusesAs refusal (read_unit c.args.text.now)) (sym p.2) refused)
 

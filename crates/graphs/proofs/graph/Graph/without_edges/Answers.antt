@@ -1,5 +1,5 @@
 use Rattle.std.proofs.Common.{arith}
-use Rattle.graphs.proofs.GraphLemmas.{map_empty}
+use Rattle.gossa_base.proofs.VectorLists.{map_empty}
 use Rattle.graphs.proofs.graph.Graph.without_edges.Goals as goal
 
 pub returns : goal.returns

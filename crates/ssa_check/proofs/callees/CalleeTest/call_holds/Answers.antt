@@ -7,8 +7,8 @@ pub returns-then-has_callee : goal.returns-then-has_callee
 returns-then-has_callee c =
     let t = c.args.self.now in
     let call = c.args.call.now in
-    let has : true ≡ matches t.func.now call (callee t.unit.now call.sym) = sym c.if-has_callee.true
+    let has : true ≡ matches t.tables.now call (callee t.unit.now call.sym) = sym c.if-has_callee.true
     ∙ c.has_callee.ensures in
     c.has_memory_of.ensures
-    ∙ memory_select t.func.now call t.selects.now c.requires.of_selects
-    ∙ ap (λ b. b && has_memory_select t.func.now call) has
+    ∙ memory_select t.tables.now call t.selects.now c.requires.of_selects
+    ∙ ap (λ b. b && has_memory_select t.tables.now call) has

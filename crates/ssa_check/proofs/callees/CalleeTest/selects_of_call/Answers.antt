@@ -1,5 +1,6 @@
 use Rattle.std.proofs.Common.{◌≡◌, ◌∙◌, true, not, ◌&&◌, sym, ap, rules, SFits, to_z-of_z, w64}
-use Rattle.ssa_ir.specs.FirstOrder.{has_value, is_call}
+use Rattle.ssa_ir.specs.FirstOrder.{has_value}
+use Rattle.ssa_ir.specs.OpKinds.{is_call}
 use Rattle.ssa_ir.specs.Limits.{tuple_words}
 use Rattle.ssa_check.specs.CalleeCheck.{has_lower_twin, is_class, result_class}
 use Rattle.ssa_check.proofs.CalleeSelectLemmas.{lower_twin}
@@ -7,7 +8,7 @@ use Rattle.ssa_check.proofs.callees.CalleeTest.selects_of_call.Goals as goal
 
 pub returns-then-is_class : goal.returns-then-is_class
 returns-then-is_class c =
-    let f = c.args.self.now.func.now in
+    let f = c.args.self.now.tables.now in
     let b = c.args.block.now in
     let v = c.args.select.now in
     let call = c.args.call.now in

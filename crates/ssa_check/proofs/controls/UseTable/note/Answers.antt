@@ -8,7 +8,8 @@ use Rattle.ssa_check.proofs.controls.UseTable.note.Goals as goal
 
 pub returns-in_default : goal.returns-in_default
 returns-in_default c = λ blocks h.
-    without_control blocks c.args.block.now c.args.self.now (record { used = c.note_values.new.used; ends = c.args.self.now.ends }) h
+    without_control blocks c.args.block.now c.args.self.now
+    (record { used = c.note_values.new.used; ends = c.args.self.now.ends }) h
     c.in_default.is
     (λ id. c.in_ok-note_values.ensures id
     ∙ ap (λ values. is_noted id c.args.self.now.used.keys || is_taken id values) c.as_slice.ensures)
@@ -30,7 +31,8 @@ returns c = λ blocks h.
     ≡ (is_noted id c.args.self.now.used.keys || is_taken id c.args.block.now.values) =
     λ id. c.in_ok-note_values.ensures id
     ∙ ap (λ values. is_noted id c.args.self.now.used.keys || is_taken id values) c.as_slice.ensures in
-    shared_control blocks c.args.block.now a c.args.self.now (record { used = c.insert-2.new.self; ends = c.insert.new.self }) h
+    shared_control blocks c.args.block.now a c.args.self.now
+    (record { used = c.insert-2.new.self; ends = c.insert.new.self }) h
     c.in-Some.is
     (not-false (is_noted a c.args.self.now.ends.keys) (sym c.in_ok-insert.ensures.added ∙ c.if-branch.false))
     (λ id. c.in_ok-insert-2.ensures.updates.0 id.0 ∙ ap (λ t. cond (same_value a id) true t) (noted id))

@@ -19,7 +19,8 @@ pub lowest_on_loop-requires-clause-edges : goal.lowest_on_loop-requires-clause-e
 lowest_on_loop-requires-clause-edges c =
     let block : List Value = c.args.self.now.values.now in
     let edges : c.as_slice.result.now ≡ block_edges block = c.as_slice.ensures.value ∙ c.in_ok-edges.ensures in
-    subst (λ (es : List Edge). All (λ e. (e.source < length block + length block) × (e.target < length block + length block)) es)
+    subst (λ (es : List Edge). All
+    (λ e. (e.source < length block + length block) × (e.target < length block + length block)) es)
     (sym edges) (edges_within block c.requires.has_items)
 
 pub lowest_on_loop-requires-clause-names : goal.lowest_on_loop-requires-clause-names
@@ -35,7 +36,8 @@ returns-in-Some c =
     let edges : c.as_slice.result.now ≡ block_edges block = c.as_slice.ensures.value ∙ c.in_ok-edges.ensures in
     let names : c.as_slice-2.result.now ≡ block_names block = c.as_slice-2.ensures.value ∙ c.in_ok-names.ensures in
     some_least block c.requires.has_items c.in-Some.lowest
-    (least_of (length block + length block) c.as_slice.result.now (block_edges block) c.as_slice-2.result.now (block_names block)
+    (least_of (length block + length block) c.as_slice.result.now (block_edges block) c.as_slice-2.result.now
+    (block_names block)
     c.in_ok-lowest.field-0 (Some c.in-Some.lowest) edges names c.in-Some.is c.in_ok-lowest.ensures)
 
 pub returns : goal.returns
@@ -44,5 +46,6 @@ returns c =
     let edges : c.as_slice.result.now ≡ block_edges block = c.as_slice.ensures.value ∙ c.in_ok-edges.ensures in
     let names : c.as_slice-2.result.now ≡ block_names block = c.as_slice-2.ensures.value ∙ c.in_ok-names.ensures in
     none_least block c.requires.has_items
-    (least_of (length block + length block) c.as_slice.result.now (block_edges block) c.as_slice-2.result.now (block_names block)
+    (least_of (length block + length block) c.as_slice.result.now (block_edges block) c.as_slice-2.result.now
+    (block_names block)
     c.in_ok-lowest.field-0 None edges names c.in-None.is c.in_ok-lowest.ensures)

@@ -8,7 +8,7 @@ use Rattle.ssa_ir.specs.Lookups.{sig_of}
 use Rattle.ssa_ir.specs.Run.{Form, State, generic, shown_of}
 use Rattle.ssa_meaning.specs.MemoryChanges.{memory_of, since_of}
 use Rattle.ssa_meaning.specs.Running.{state_of}
-use Rattle.ssa_meaning.proofs.SliceLemmas.{item_copied}
+use Rattle.gossa_base.proofs.ListPlaces.{item_copied}
 use Rattle.ssa_meaning.proofs.StepLemmas.{taken_from, call_goes_on}
 use Rattle.ssa_meaning.proofs.running.Running.run_call.Goals as goal
 

@@ -6,7 +6,7 @@ use Rattle.ssa_ir.specs.Inputs.{Inputs, inputs_of}
 use Rattle.ssa_ir.specs.Lookups.{sig_of}
 use Rattle.ssa_ir.specs.Roles.{role}
 use Rattle.ssa_ir.specs.Run.{Form, State, generic, run_role, run_values}
-use Rattle.ssa_meaning.specs.Items.{item_values}
+use Rattle.block_order.specs.Items.{item_values}
 use Rattle.ssa_meaning.specs.Ran.{Ran, next_of}
 use Rattle.ssa_meaning.specs.Running.{state_of}
 use Rattle.ssa_meaning.proofs.StepItemLemmas.{item_ran}

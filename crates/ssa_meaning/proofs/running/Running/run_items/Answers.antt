@@ -6,8 +6,8 @@ use Rattle.ssa_ir.specs.declared.func.Value.{Value}
 use Rattle.ssa_ir.specs.Inputs.{Inputs, inputs_of}
 use Rattle.ssa_ir.specs.Lookups.{sig_of}
 use Rattle.ssa_ir.specs.Run.{Form, State, generic, run_values}
-use Rattle.ssa_meaning.specs.declared.order.Item.{Item}
-use Rattle.ssa_meaning.specs.Items.{item_values}
+use Rattle.block_order.specs.declared.order.Item.{Item}
+use Rattle.block_order.specs.Items.{item_values}
 use Rattle.ssa_meaning.specs.Ran.{Ran, GoesOn, IsOver, next_of}
 use Rattle.ssa_meaning.specs.Running.{state_of}
 use Rattle.ssa_meaning.proofs.StepItemLemmas.{item_then}

@@ -20,7 +20,8 @@ returns c =
         names_kept before.sigs before.funcs before.func after by (λ f. refl) changed before.names tables.0,
         none_kept before.sigs before.funcs before.func after by (λ f. refl) changed tables.1,
         blocks_stay c.args.value before.func after changed c.requires.place _ tables.2,
-        value_taken c.args.value before.func after changed c.requires.place before.values c.insert.new.self c.requires.once tables.3
+        value_taken c.args.value before.func after changed c.requires.place before.values c.insert.new.self
+            c.requires.once tables.3
             c.in_ok-insert.ensures.ok,
       ),
     )

@@ -1,0 +1,3 @@
+pub mod LastDefiner
+pub mod MemoryLaws
+pub mod PathLaws

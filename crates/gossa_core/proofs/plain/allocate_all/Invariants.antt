@@ -1,7 +1,0 @@
-use Rattle.std.proofs.Common.{◌≡◌, map, take}
-use Rattle.gossa_core.specs.Plain.{plain_listing}
-use Rattle.gossa_core.proofs.plain.allocate_all.Given as goal
-
--- the functions so far have their listings
-abbrev pub invariant-loop-func : goal.invariant-loop-func
-invariant-loop-func l = l.listings ≡ map (plain_listing l.regs) (take l.func-index l.funcs)

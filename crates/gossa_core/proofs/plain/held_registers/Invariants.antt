@@ -1,7 +1,0 @@
-use Rattle.std.proofs.Common.{◌≡◌, ◌++◌, drop}
-use Rattle.gossa_core.specs.Parameters.{held_from}
-use Rattle.gossa_core.proofs.plain.held_registers.Given as goal
-
--- the registers so far, and those of the rest, are those of all
-abbrev pub invariant-loop-register : goal.invariant-loop-register
-invariant-loop-register l = l.held ++ held_from l.register (drop l.register l.ids) ≡ held_from 0 l.ids

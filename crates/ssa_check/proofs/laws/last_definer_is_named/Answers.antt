@@ -1,5 +1,0 @@
-use Rattle.ssa_check.proofs.LastDefinerLemmas.{last_definer_is_named}
-use Rattle.ssa_check.proofs.laws.last_definer_is_named.Goals as goal
-
-pub returns : goal.returns
-returns c = last_definer_is_named

@@ -1,9 +1,0 @@
-use Rattle.std.proofs.Common.{◌≡◌, ◌++◌, filter_map, drop}
-use Rattle.ssa_meaning.specs.OrderDependencies.{index_of}
-use Rattle.ssa_meaning.proofs.order.dependencies.put_args.Given as goal
-
--- the indexes of the arguments so far, and those of the arguments that are left
-abbrev pub invariant-loop-arg : goal.invariant-loop-arg
-invariant-loop-arg l =
-    l.found.items ++ filter_map (index_of l.values) (drop l.arg-index l.args)
-    ≡ l.fn.found.items ++ filter_map (index_of l.values) l.args

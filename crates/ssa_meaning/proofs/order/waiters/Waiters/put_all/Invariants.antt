@@ -1,8 +1,0 @@
-use Rattle.std.proofs.Common.{◌≡◌, length, take}
-use Rattle.ssa_meaning.specs.OrderWaiting.{with_waiters}
-use Rattle.ssa_meaning.proofs.order.waiters.Waiters.put_all.Given as goal
-
--- it waits for those so far
-abbrev pub invariant-loop-index : goal.invariant-loop-index
-invariant-loop-index l =
-    (l.self ≡ with_waiters l.initial.self (take l.index-index l.awaited) l.waiter) × (length l.self ≡ length l.initial.self)

@@ -1,0 +1,5 @@
+pub mod BlockLemmas
+pub mod BlockTableLemmas
+pub mod FlowLemmas
+pub mod SignatureLemmas
+pub mod ValueTableLemmas
