@@ -17,17 +17,21 @@ use Rattle.ssa_check.specs.declared.refusal.At.TheVariants.{Value as AtValue}
 use Rattle.ssa_check.specs.declared.refusal.Check.TheVariants.{Arity, Cycle, Undefined}
 use Rattle.ssa_ir.specs.Cycles.{IsWalk, OnCycle, leaders, stands_before}
 use Rattle.ssa_check.specs.Failing.{MeetsAll}
-use Rattle.ssa_check.specs.Items.{HasItems, call_named, is_index, owner, owner_of}
-use Rattle.accepted_laws.specs.PathLaws.{AreTaken, DefinedBeforeUse, IsReachedValue, NoCircle, NothingCircles, takes_value}
+use Rattle.block_order.specs.LowestOnCycle.{HasItems}
+use Rattle.block_order.specs.tables.ItemGraph.{call_named, is_index, owner, owner_of}
+use Rattle.accepted_laws.specs.PathLaws.{AreTaken, DefinedBeforeUse, IsReachedValue, NoCircle, NothingCircles}
+use Rattle.accepted_laws.specs.PathLaws.{takes_value}
 use Rattle.ssa_ir.specs.Paths.{IsPath, Reached}
 use Rattle.ssa_check.proofs.CyclePlaces.{has_items}
 use Rattle.accepted_laws.proofs.DefinedLemmas.{defined_before_use, meets_all, some_of, well_formed_func}
-use Rattle.ssa_check.proofs.ItemEdges.{Takes, some_is_index}
+use Rattle.block_order.proofs.ItemEdges.{Takes, some_is_index}
 use Rattle.gossa_base.proofs.ListPlaces.{At, Found, any_at, at_contains, contains_at, find_any, same_at}
-use Rattle.ssa_check.proofs.ItemOwners.{IsItem, Names, Owns, call_no_follower, call_no_phi, equal_numbers, item_leader}
-use Rattle.ssa_check.proofs.ItemOwners.{itself, names_from, of_call, owner_call, owner_found, owner_has, owner_is_item}
-use Rattle.ssa_check.proofs.ItemOwners.{owner_itself, owns_from, same_index, same_numbers, same_standing, select_arg}
-use Rattle.ssa_check.proofs.ItemStands.{stands_by_taking}
+use Rattle.block_order.proofs.ItemOwners.{IsLeader, Names, Owns, call_no_follower, call_no_phi, equal_numbers}
+use Rattle.block_order.proofs.ItemOwners.{item_leader}
+use Rattle.block_order.proofs.ItemOwners.{itself, names_from, of_call, owner_call, owner_found, owner_has}
+use Rattle.block_order.proofs.ItemOwners.{owner_is_item}
+use Rattle.block_order.proofs.ItemOwners.{owner_itself, owns_from, same_index, same_numbers, same_standing, select_arg}
+use Rattle.block_order.proofs.ItemStands.{stands_by_taking}
 
 -- ---- blocks that lie on every path to another one
 
@@ -189,7 +193,7 @@ record Led (block : List Value) (v : Value) : Type 0 where
   place : ℕ
   owned : owner_of block index v ≡ Some place
   leader : Value
-  leads : IsItem block place leader
+  leads : IsLeader block place leader
 
 -- the item of what a value takes stands before its own; but a select is of the item of the call that it takes
 data Step (block : List Value) (v w leader_v leader_w : Value) : Type 0 where
@@ -208,7 +212,7 @@ module _ (block : List Value) (has : HasItems block) where
     where
       owned_by : (i : ℕ) → At block i v → (o : ℕ) → owner_of block i v ≡ Some o → Led block v
       owned_by i at o own =
-          let item : (x : Value) × IsItem block o x = owner_is_item block has o i v at own in
+          let item : (x : Value) × IsLeader block o x = owner_is_item block has o i v at own in
           record { index = i; at = at; place = o; owned = own; leader = item.0; leads = item.1 }
 
       by_name : Somewhere block v → (b : Bool) → is_follower v.op ≡ b → (c : Option ℕ) → call_named block v.args ≡ c

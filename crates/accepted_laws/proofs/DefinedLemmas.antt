@@ -15,15 +15,12 @@ use Rattle.ssa_ir.specs.OpKinds.{is_phi}
 use Rattle.ssa_ir.specs.WellFormed.{WellFormedFunc}
 use Rattle.ssa_check.specs.declared.refusal.At.TheVariants.{Value as AtValue, Block as AtBlock}
 use Rattle.ssa_check.specs.declared.refusal.Check.TheVariants.{Undefined}
-use Rattle.ssa_tables.specs.declared.values.Place.{Place}
 use Rattle.ssa_ir.specs.Definedness.{ControlMisses, Misses, ValueMisses, is_passed}
 use Rattle.ssa_check.specs.Failing.{Meets, MeetsAll}
-use Rattle.ssa_check.specs.Items.{index_in, index_of}
 use Rattle.accepted_laws.specs.PathLaws.{AcceptedFunc, DefinedBeforeUse, DefinitionsComeFirst, IsDefined}
 use Rattle.ssa_ir.specs.Paths.{IsPath}
-use Rattle.ssa_tables.specs.Places.{place_in, places_of}
-use Rattle.ssa_check.proofs.CyclePlaces.{indexes}
-use Rattle.gossa_base.proofs.ListPlaces.{At, Found, contains_at, find_any, first_some, same_at}
+use Rattle.ssa_check.proofs.CyclePlaces.{one_standing}
+use Rattle.gossa_base.proofs.ListPlaces.{At, Found, contains_at, find_any}
 
 pub well_formed_func : (u : SsaUnit) (f : Func) → AcceptedFunc u f → WellFormedFunc f
 well_formed_func u f accepted = All-contains WellFormedFunc u.funcs f accepted.well_formed.each_function accepted.is_of
@@ -85,40 +82,15 @@ module _ (u : SsaUnit) (f : Func) (meets : Meets Undefined u f) where
 
 -- ---- a value stands in one block
 
-abbrev PlacedAt : Func → ValueId → ℕ → Type 0
-PlacedAt f id k = (p : Place) × (place_in (places_of f) id ≡ Some p) × (p.block ≡ k)
-
--- the place of a value that a block has is one of the block
-placed_at : (f : Func) → WellFormedFunc f → (id : ValueId) (k : ℕ) (b : Block) → At f.blocks k b
-    → has_value b.values id ≡ true → PlacedAt f id k
-placed_at f well id k b at has = by_value (find_any (λ v. same_value v.id id) b.values has)
-  where
-    by_block : (i : ℕ) (p : Place) → place_in (places_of f) id ≡ Some p → (same : Bool) → (p.block == k) ≡ same
-        → (if same then Some p.index else None) ≡ Some i → PlacedAt f id k
-    by_block i p is true e h = (p, is, eqb-true p.block k e)
-    by_block i p is false e h = cc
-
-    by_place : (i : ℕ) (place : Option Place) → place_in (places_of f) id ≡ place → index_in k place ≡ Some i
-        → PlacedAt f id k
-    by_place i None is h = cc
-    by_place i (Some p) is h = by_block i p is (p.block == k) refl h
-
-    by_value : Found (λ v. same_value v.id id) b.values → PlacedAt f id k
-    by_value (i, v, there, same) =
-        let first : (n : ℕ) × (index_of b.values id ≡ Some n)
-        = first_some (λ w. same_value w.id id) 0 b.values i v there same in
-        by_place first.0 (place_in (places_of f) id) refl (indexes f well k b at id ∙ first.1)
-
 pub one_block : (f : Func) → WellFormedFunc f → (b c : Block) (id : ValueId) → Contains f.blocks b → Contains f.blocks c
     → has_value b.values id ≡ true → has_value c.values id ≡ true → b ≡ c
 one_block f well b c id is_b is_c in_b in_c =
     let i : (k : ℕ) × At f.blocks k b = contains_at f.blocks b is_b in
     let j : (k : ℕ) × At f.blocks k c = contains_at f.blocks c is_c in
-    let x : PlacedAt f id i.0 = placed_at f well id i.0 b i.1 in_b in
-    let y : PlacedAt f id j.0 = placed_at f well id j.0 c j.1 in_c in
-    let one : x.0 ≡ y.0 = let e : Some x.0 ≡ Some y.0 = sym x.1 ∙ y.1 in cc in
-    let same : i.0 ≡ j.0 = sym x.2 ∙ ap (λ (p : Place). p.block) one ∙ y.2 in
-    same_at f.blocks i.0 b c i.1 (ap (slice_get f.blocks) same ∙ j.1)
+    let x : Found (λ v. same_value v.id id) b.values = find_any (λ v. same_value v.id id) b.values in_b in
+    let y : Found (λ v. same_value v.id id) c.values = find_any (λ v. same_value v.id id) c.values in_c in
+    one_standing f well i.0 j.0 b c i.1 j.1 x.0 y.0 x.1 y.1 x.2 y.2
+    (eqb-true x.1.id.0 id.0 x.3 ∙ sym (eqb-true y.1.id.0 id.0 y.3))
 
 -- ---- the law
 

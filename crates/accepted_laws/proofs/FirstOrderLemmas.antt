@@ -13,11 +13,11 @@ use Rattle.ssa_ir.specs.FirstOrder.{by_number, first_order, followers_of, has_va
 use Rattle.ssa_ir.specs.FirstOrder.{memory_taken, next_then, placed_next, readers_before, ready_or_later, same_memory}
 use Rattle.ssa_ir.specs.FirstOrder.{same_value, selects, split_ready}
 use Rattle.ssa_ir.specs.OpKinds.{changes_memory, is_call, is_follower, is_phi, reads_memory}
-use Rattle.ssa_check.specs.Items.{HasItems}
+use Rattle.block_order.specs.LowestOnCycle.{HasItems}
 use Rattle.gossa_base.proofs.ListPlaces.{At, any_at, find_any, Stands}
-use Rattle.ssa_check.proofs.ItemOwners.{equal_numbers, follower_no_phi, same_numbers, same_standing, selects_only}
-use Rattle.ssa_check.proofs.StandingLemmas.{Absent, Differing, absent_more, by_number_stands, differing_by_number}
-use Rattle.ssa_check.proofs.StandingLemmas.{differing_filter, differing_joined, stands_by_number}
+use Rattle.block_order.proofs.ItemOwners.{equal_numbers, follower_no_phi, same_numbers, same_standing, selects_only}
+use Rattle.block_order.proofs.StandingLemmas.{Absent, Differing, absent_more, by_number_stands, differing_by_number}
+use Rattle.block_order.proofs.StandingLemmas.{differing_filter, differing_joined, stands_by_number}
 use Rattle.gossa_base.proofs.ListStanding.{Behind, InFront, all_stands, filter_stands, part_of, stands_at}
 use Rattle.gossa_base.proofs.ListStanding.{stands_either, stands_filter, stands_here, stands_later, stands_not}
 

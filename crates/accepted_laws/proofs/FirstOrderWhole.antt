@@ -13,10 +13,13 @@ use Rattle.ssa_ir.specs.FirstOrder.{readers_before, same_memory, same_value, sel
 use Rattle.ssa_ir.specs.OpKinds.{changes_memory, is_call, is_follower, is_phi, reads_memory}
 use Rattle.ssa_ir.specs.Cycles.{CycleThrough, IsWalk, OnCycle, follows_a_call, leaders, names_its_call, stands_before}
 use Rattle.ssa_ir.specs.Cycles.{takes_of, takes_one}
-use Rattle.ssa_check.specs.Items.{HasItems}
+use Rattle.block_order.specs.LowestOnCycle.{HasItems}
 use Rattle.gossa_base.proofs.ListPlaces.{At, any_at, at_contains, find_any, Stands}
-use Rattle.ssa_check.proofs.ItemOwners.{call_no_follower, call_no_phi}
-use Rattle.accepted_laws.proofs.FirstOrderLemmas.{Chosen, Left, OfItem, has_from, is_other, is_other_by, left_after, next_from, other_no_follower, other_no_phi, others, others_left, reads_no_follower, select_follows, select_in_item, split_none, split_some, stands_has}
+use Rattle.block_order.proofs.ItemOwners.{call_no_follower, call_no_phi}
+use Rattle.accepted_laws.proofs.FirstOrderLemmas.{Chosen, Left, OfItem, has_from, is_other, is_other_by, left_after}
+use Rattle.accepted_laws.proofs.FirstOrderLemmas.{next_from, other_no_follower, other_no_phi, others, others_left}
+use Rattle.accepted_laws.proofs.FirstOrderLemmas.{reads_no_follower, select_follows, select_in_item, split_none}
+use Rattle.accepted_laws.proofs.FirstOrderLemmas.{split_some, stands_has}
 use Rattle.gossa_base.proofs.ListStanding.{Fails, Split, filter_stands, some_fails, split_at, stands_either}
 use Rattle.gossa_base.proofs.ListStanding.{stands_filter, stands_here, stands_later, stands_left, stands_not}
 use Rattle.gossa_base.proofs.ListStanding.{stands_right}

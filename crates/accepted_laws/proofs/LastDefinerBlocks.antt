@@ -23,7 +23,7 @@ use Rattle.ssa_check.specs.declared.refusal.Check.TheVariants.{Arity, ArgOrInit,
 use Rattle.ssa_check.specs.CalleeCheck.{call_holds, callee, callee_holds, has_lower_twin, has_memory_select, is_class}
 use Rattle.ssa_check.specs.CalleeCheck.{matches, result_class, select_holds, selects_of}
 use Rattle.ssa_ir.specs.Classes.{is_memory}
-use Rattle.ssa_check.specs.Items.{HasItems}
+use Rattle.block_order.specs.LowestOnCycle.{HasItems}
 use Rattle.ssa_ir.specs.MemoryChains.{Chained, IsChain, begins_memory, inner_of, is_inner, is_memory_phi, is_store}
 use Rattle.ssa_ir.specs.MemoryChains.{memory_of, taken_by, takes, takes_inner}
 use Rattle.accepted_laws.specs.PathLaws.{AcceptedFunc}
@@ -36,9 +36,9 @@ use Rattle.accepted_laws.proofs.DefinedLemmas.{meets_all, one_block, well_formed
 use Rattle.accepted_laws.proofs.FirstOrderLemmas.{has_from, one_value, stands_has}
 use Rattle.accepted_laws.proofs.FirstOrderWhole.{Orderly}
 use Rattle.gossa_base.proofs.ListPlaces.{At, all_at, any_at, at_contains, contains_at, find_any, same_at, Stands}
-use Rattle.ssa_check.proofs.ItemOwners.{equal_numbers, same_numbers, select_arg, selects_only}
+use Rattle.block_order.proofs.ItemOwners.{equal_numbers, same_numbers, select_arg, selects_only}
 use Rattle.accepted_laws.proofs.MemoryLawLemmas.{no_value_fails}
-use Rattle.ssa_check.proofs.StandingLemmas.{Differing, differing_one}
+use Rattle.block_order.proofs.StandingLemmas.{Differing, differing_one}
 use Rattle.gossa_base.proofs.ListStanding.{stands_either, stands_filter, stands_here, stands_later, stands_left}
 use Rattle.gossa_base.proofs.ListStanding.{stands_not, stands_right}
 

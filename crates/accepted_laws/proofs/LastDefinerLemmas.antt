@@ -20,7 +20,8 @@ use Rattle.ssa_ir.specs.OpKinds.{changes_memory, is_call, is_follower, is_phi, r
 use Rattle.ssa_ir.specs.Ops.{row_of}
 use Rattle.ssa_ir.specs.Lookups.{named_by}
 use Rattle.ssa_ir.specs.Classes.{is_memory}
-use Rattle.accepted_laws.specs.LastDefiner.{LastDefiner, LastDefinerIsNamed, NamesLast, last_on_path, last_passed, memory_behind, names_memory}
+use Rattle.accepted_laws.specs.LastDefiner.{LastDefiner, LastDefinerIsNamed, NamesLast, last_on_path, last_passed}
+use Rattle.accepted_laws.specs.LastDefiner.{memory_behind, names_memory}
 use Rattle.ssa_ir.specs.MemoryChains.{IsChain, begins_memory, has_definer, inner_of, is_definer, is_inner}
 use Rattle.ssa_ir.specs.MemoryChains.{is_memory_phi, is_store, last_definer, memory_of, taken_by, takes, takes_inner}
 use Rattle.accepted_laws.specs.MemoryLaws.{Begins, BeginsBy, Ends, MemoryIsPassed, Starts, TakesEnd, TakesPassed}
@@ -32,15 +33,19 @@ use Rattle.ssa_check.proofs.ChainLemmas.{inner_apart, last_free, some_last}
 use Rattle.gossa_base.proofs.ListPlaces.{last_at}
 use Rattle.ssa_check.proofs.ChainWalkLemmas.{find_nowhere, find_there}
 use Rattle.accepted_laws.proofs.DefinedLemmas.{well_formed_func}
-use Rattle.accepted_laws.proofs.FirstOrderLemmas.{Placing, has_from, one_value, order_differs, order_in_block, other_no_follower, placed_behind, placed_phi, placed_ready, placing, reads_no_follower, ready_args, ready_readers, select_follows, stands_has}
+use Rattle.accepted_laws.proofs.FirstOrderLemmas.{Placing, has_from, one_value, order_differs, order_in_block}
+use Rattle.accepted_laws.proofs.FirstOrderLemmas.{other_no_follower, placed_behind, placed_phi, placed_ready, placing}
+use Rattle.accepted_laws.proofs.FirstOrderLemmas.{reads_no_follower, ready_args, ready_readers, select_follows}
+use Rattle.accepted_laws.proofs.FirstOrderLemmas.{stands_has}
 use Rattle.accepted_laws.proofs.FirstOrderWhole.{order_whole}
 use Rattle.gossa_base.proofs.ListPlaces.{At, all_at, any_at, at_contains, contains_at, find_any, Stands}
-use Rattle.ssa_check.proofs.ItemOwners.{follower_no_phi, selects_only}
-use Rattle.ssa_check.proofs.ItemStands.{memories_same}
-use Rattle.accepted_laws.proofs.LastDefinerBlocks.{init_in_entry, items_of, memory_select, one_begins, one_taker, orderly, select_takes}
+use Rattle.block_order.proofs.ItemOwners.{follower_no_phi, selects_only}
+use Rattle.block_order.proofs.ItemStands.{memories_same}
+use Rattle.accepted_laws.proofs.LastDefinerBlocks.{init_in_entry, items_of, memory_select, one_begins, one_taker}
+use Rattle.accepted_laws.proofs.LastDefinerBlocks.{orderly, select_takes}
 use Rattle.accepted_laws.proofs.MemoryLawLemmas.{memory_is_passed, phi_is_passed, taken_is}
 use Rattle.accepted_laws.proofs.PassedMemory.{inner_defines}
-use Rattle.ssa_check.proofs.StandingLemmas.{Differing, differing_from, none_before}
+use Rattle.block_order.proofs.StandingLemmas.{Differing, differing_from, none_before}
 use Rattle.gossa_base.proofs.ListStanding.{Split, filter_stands, split_at, stands_at, stands_either, stands_filter}
 use Rattle.gossa_base.proofs.ListStanding.{stands_here, stands_later, stands_left, stands_not, stands_right}
 

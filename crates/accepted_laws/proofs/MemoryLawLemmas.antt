@@ -18,7 +18,8 @@ use Rattle.ssa_check.specs.declared.memories.Leaves.TheVariants.{Through, Known,
 use Rattle.ssa_check.specs.Failing.{BlockFails, ValueFails}
 use Rattle.ssa_ir.specs.MemoryChains.{Chained, has_definer, inner_of, is_inner, is_memory_phi, taken_by, takes}
 use Rattle.ssa_ir.specs.MemoryChains.{takes_inner}
-use Rattle.accepted_laws.specs.MemoryLaws.{Begins, BeginsBy, Ends, MemoryIsPassed, PhiIsPassed, Starts, TakesEnd, TakesPassed}
+use Rattle.accepted_laws.specs.MemoryLaws.{Begins, BeginsBy, Ends, MemoryIsPassed, PhiIsPassed, Starts, TakesEnd}
+use Rattle.accepted_laws.specs.MemoryLaws.{TakesPassed}
 use Rattle.ssa_ir.specs.MemoryPaths.{Asked, ComesIn, IsIncoming, IsIncomingBy, IsOutgoing, Passes, TakesOther, is_exit}
 use Rattle.ssa_ir.specs.MemoryPaths.{uses_memory}
 use Rattle.accepted_laws.specs.PathLaws.{AcceptedFunc}
@@ -28,8 +29,9 @@ use Rattle.ssa_check.proofs.ChainLemmas.{one_last}
 use Rattle.accepted_laws.proofs.DefinedLemmas.{meets_all, well_formed_func}
 use Rattle.accepted_laws.proofs.FirstOrderLemmas.{id_equal}
 use Rattle.gossa_base.proofs.ListPlaces.{any_at, any_from_at, contains_at, find_any}
-use Rattle.ssa_check.proofs.ItemStands.{same_memories}
-use Rattle.accepted_laws.proofs.PassedMemory.{Leaving, PassesNone, PassesSome, chained_or_not, decide_passes, incoming_there, leaves_of, path_within, same_incoming, same_passes}
+use Rattle.block_order.proofs.ItemStands.{same_memories}
+use Rattle.accepted_laws.proofs.PassedMemory.{Leaving, PassesNone, PassesSome, chained_or_not, decide_passes}
+use Rattle.accepted_laws.proofs.PassedMemory.{incoming_there, leaves_of, path_within, same_incoming, same_passes}
 
 -- ---- what an accepted function has
 

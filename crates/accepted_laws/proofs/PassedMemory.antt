@@ -11,8 +11,8 @@ use Rattle.ssa_ir.specs.declared.func.Value.{Value}
 use Rattle.ssa_ir.specs.WellFormed.{WellFormedFunc}
 use Rattle.ssa_check.specs.declared.memories.Leaves.{Leaves}
 use Rattle.ssa_check.specs.declared.memories.Leaves.TheVariants.{Through, Known, Unknown}
-use Rattle.ssa_check.specs.ChainLinks.{chain_end, leaves_by, links_of}
-use Rattle.ssa_check.specs.ChainTables.{LeavesOf}
+use Rattle.ssa_check.specs.tables.ChainLinks.{chain_end, leaves_by, links_of}
+use Rattle.ssa_check.specs.tables.ChainTables.{LeavesOf}
 use Rattle.ssa_ir.specs.MemoryChains.{Chained, begins_memory, has_definer, inner_of, is_definer, is_inner}
 use Rattle.ssa_ir.specs.MemoryChains.{is_memory_phi}
 use Rattle.ssa_ir.specs.MemoryPaths.{AllPass, ComesIn, IsIncoming, IsIncomingBy, IsInit, Passes}

@@ -1,9 +1,8 @@
 // What each op computes.
 
-ghost use Rattle.std.specs.Prelude.{◌≡◌, ◌≤◌};
+ghost use Rattle.std.specs.Prelude.{◌≡◌};
 ghost use Rattle.gossa_base.specs.Words.{word_of};
 ghost use Rattle.ssa_ir.specs.Evaluation as spec;
-ghost use Rattle.ssa_ir.specs.Widths as widths;
 
 use crate::arithmetic::{difference, negative, product, sum};
 use crate::bits::{and, chosen, inverted, or, sign_extended, xor};
@@ -15,43 +14,7 @@ use crate::conditions::{condition_at, holds, selected};
 use crate::division::{quotient, remainder, unsigned_quotient, unsigned_remainder};
 use crate::shifts::{shift_left, shift_right, signed_shift_right};
 use gossa_base::{low, sext};
-use ssa_ir::{CondCode, Op, Width, WidthPair};
-
-// The bits of a width.
-fn bits(w: Width) -> u32
-    ensures exact { result ≡ widths.bits w }
-    ensures at_least_one { 1 ≤ result }
-    ensures at_most_all { result ≤ 64 }
-{
-    match w {
-        Width::W8 => 8,
-        Width::W16 => 16,
-        Width::W32 => 32,
-        Width::W64 => 64,
-    }
-}
-
-// The smaller width of two.
-fn narrow(p: WidthPair) -> Width
-    ensures { result ≡ widths.narrow_of p }
-{
-    match p {
-        WidthPair::W8W16 | WidthPair::W8W32 | WidthPair::W8W64 => Width::W8,
-        WidthPair::W16W32 | WidthPair::W16W64 => Width::W16,
-        WidthPair::W32W64 => Width::W32,
-    }
-}
-
-// The greater width of two.
-fn wide(p: WidthPair) -> Width
-    ensures { result ≡ widths.wide_of p }
-{
-    match p {
-        WidthPair::W8W16 => Width::W16,
-        WidthPair::W8W32 | WidthPair::W16W32 => Width::W32,
-        WidthPair::W8W64 | WidthPair::W16W64 | WidthPair::W32W64 => Width::W64,
-    }
-}
+use ssa_ir::{CondCode, Op};
 
 // The word of a number, modulo 2 to the 64.
 fn word(number: i64) -> u64
@@ -74,27 +37,27 @@ pub fn eval(op: Op, aux: i64, a: u64, b: u64, c: u64, flags: u8) -> u64
 {
     let number = word(aux);
     match op {
-        Op::Add(w) => sum(bits(w), a, b),
-        Op::Sub(w) => difference(bits(w), a, b),
-        Op::Mul(w) => product(bits(w), a, b),
-        Op::And(w) => and(bits(w), a, b),
-        Op::Or(w) => or(bits(w), a, b),
-        Op::Xor(w) => xor(bits(w), a, b),
-        Op::Neg(w) => negative(bits(w), a),
-        Op::Com(w) => inverted(bits(w), a),
-        Op::Div(w) => quotient(bits(w), a, b),
-        Op::DivU(w) => unsigned_quotient(bits(w), a, b),
-        Op::Mod(w) => remainder(bits(w), a, b),
-        Op::ModU(w) => unsigned_remainder(bits(w), a, b),
-        Op::Lsh(w) => shift_left(bits(w), a, b),
-        Op::Rsh(w) => signed_shift_right(bits(w), a, b),
-        Op::RshU(w) => shift_right(bits(w), a, b),
-        Op::Eq(w) => one_where(is_equal(bits(w), a, b)),
-        Op::Neq(w) => one_where(!is_equal(bits(w), a, b)),
-        Op::Less(w) => one_where(is_less(bits(w), a, b)),
-        Op::Leq(w) => one_where(is_at_most(bits(w), a, b)),
-        Op::LessU(w) => one_where(is_below(bits(w), a, b)),
-        Op::LeqU(w) => one_where(is_below_or_same(bits(w), a, b)),
+        Op::Add(w) => sum(w.bits(), a, b),
+        Op::Sub(w) => difference(w.bits(), a, b),
+        Op::Mul(w) => product(w.bits(), a, b),
+        Op::And(w) => and(w.bits(), a, b),
+        Op::Or(w) => or(w.bits(), a, b),
+        Op::Xor(w) => xor(w.bits(), a, b),
+        Op::Neg(w) => negative(w.bits(), a),
+        Op::Com(w) => inverted(w.bits(), a),
+        Op::Div(w) => quotient(w.bits(), a, b),
+        Op::DivU(w) => unsigned_quotient(w.bits(), a, b),
+        Op::Mod(w) => remainder(w.bits(), a, b),
+        Op::ModU(w) => unsigned_remainder(w.bits(), a, b),
+        Op::Lsh(w) => shift_left(w.bits(), a, b),
+        Op::Rsh(w) => signed_shift_right(w.bits(), a, b),
+        Op::RshU(w) => shift_right(w.bits(), a, b),
+        Op::Eq(w) => one_where(is_equal(w.bits(), a, b)),
+        Op::Neq(w) => one_where(!is_equal(w.bits(), a, b)),
+        Op::Less(w) => one_where(is_less(w.bits(), a, b)),
+        Op::Leq(w) => one_where(is_at_most(w.bits(), a, b)),
+        Op::LessU(w) => one_where(is_below(w.bits(), a, b)),
+        Op::LeqU(w) => one_where(is_below_or_same(w.bits(), a, b)),
         Op::EqB => xor(8, xor(8, a, b), 1),
         Op::NeqB => xor(8, a, b),
         Op::AndB => and(8, a, b),
@@ -105,12 +68,12 @@ pub fn eval(op: Op, aux: i64, a: u64, b: u64, c: u64, flags: u8) -> u64
         Op::IsNonNil => one_where(!is_equal(64, a, 0)),
         Op::IsInBounds => one_where(is_below(64, a, b)),
         Op::IsSliceInBounds => one_where(is_below_or_same(64, a, b)),
-        Op::SignExt(p) => sign_extended(bits(narrow(p)), bits(wide(p)), a),
-        Op::ZeroExt(p) | Op::Trunc(p) => low(bits(narrow(p)), a),
+        Op::SignExt(p) => sign_extended(p.narrow().bits(), p.wide().bits(), a),
+        Op::ZeroExt(p) | Op::Trunc(p) => low(p.narrow().bits(), a),
         Op::AddPtr => sum(64, a, b),
         Op::OffPtr => sum(64, a, number),
         Op::CondSelect => chosen(a, b, c),
-        Op::Const(w) => low(bits(w), number),
+        Op::Const(w) => low(w.bits(), number),
         Op::ConstBool => one_where(number != 0),
         Op::ConstNil | Op::SB => 0,
         Op::Copy => a,

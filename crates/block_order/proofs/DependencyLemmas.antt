@@ -1,18 +1,17 @@
 -- What a value waits for by index is what its place in the first order waits for.
-use Rattle.std.proofs.Common.{◌≡◌, ℕ, zero, suc, ◌+◌, ◌==◌, ◌<◌, Bool, true, false, not, ◌&&◌, ◌||◌, if◌then◌else◌}
-use Rattle.std.proofs.Common.{List, [], ◌∷◌, ◌++◌, length, get_or, take, filter_map, Option, None, Some, refl, sym, ap}
+use Rattle.std.proofs.Common.{◌≡◌, ℕ, ◌+◌, ◌==◌, ◌<◌, Bool, true, false, not, ◌&&◌, ◌||◌, if◌then◌else◌}
+use Rattle.std.proofs.Common.{List, [], ◌∷◌, length, get_or, take, filter_map, Option, None, Some, refl, sym, ap}
 use Rattle.std.proofs.Common.{◌∙◌, arith}
-use Rattle.std.specs.List.{cons_option, list_all, list_any}
-use Rattle.std.specs.Option.{option_or}
+use Rattle.std.specs.List.{cons_option, list_all}
 use Rattle.std.proofs.lemmas.Bool.{eqb-true}
 use Rattle.gossa_base.specs.declared.ids.ValueId.{ValueId}
 use Rattle.ssa_ir.specs.declared.func.Value.{Value}
 use Rattle.ssa_ir.specs.FirstOrder.{has_value, is_placed, is_ready, readers_before, same_value}
 use Rattle.ssa_ir.specs.OpKinds.{changes_memory}
-use Rattle.block_order.specs.Dependencies.{all_placed, dependencies, index_of, is_at, reader_indexes, reads_memory_of}
-use Rattle.gossa_base.specs.Lists.{first_from, indexes_from}
-use Rattle.gossa_base.proofs.ListPlaces.{At, all_append, all_by_index, any_at, first_at, first_more, first_none}
-use Rattle.gossa_base.proofs.ListPlaces.{only_where}
+use Rattle.block_order.specs.tables.Dependencies.{all_placed, index_of, is_at, reader_indexes}
+use Rattle.block_order.specs.tables.Dependencies.{reads_memory_of}
+use Rattle.gossa_base.proofs.ListPlaces.{At, all_append, all_by_index, any_at, first_at, first_none}
+use Rattle.block_order.proofs.FirstTables.{first_comes, first_stays}
 
 -- these flags say which values of the block have a number among these values
 abbrev pub Flagged : (block placed : List Value) → List Bool → Type 0
@@ -89,49 +88,24 @@ ready_by_index block placed flags v flagged =
 same_index : (values : List Value) (m n : ValueId) → m.0 ≡ n.0 → index_of values m ≡ index_of values n
 same_index values m n same = ap (λ (k : ValueId). index_of values k) (λ i. record { 0 = same i })
 
-index_more : (values : List Value) (i : ℕ) (d : Value) (m : ValueId) → i < length values
-    → index_of (take (i + 1) values) m ≡ option_or (index_of (take i values) m)
-    (only_where ((get_or values i d).id.0 == m.0) i)
-index_more values i d m within = first_more (λ v. same_value v.id m) values i d within
-
 -- a value whose number stands before changes nothing
 pub old_index : (values : List Value) (i : ℕ) (d : Value) (n m : ValueId) (before : Option ℕ) (k : ℕ)
     → i < length values
     → n ≡ (get_or values i d).id → index_of (take i values) n ≡ Some k → before ≡ index_of (take i values) m
     → before ≡ index_of (take (i + 1) values) m
 old_index values i d n m before k within is has old =
-    old ∙ sym (index_more values i d m within
-    ∙ ap (λ (x : ValueId). option_or (index_of (take i values) m) (only_where (x.0 == m.0) i)) (sym is)
-    ∙ by_test (n.0 == m.0) refl)
-  where
-    or_some : (o : Option ℕ) (b : Bool) (j : ℕ) → o ≡ Some j → option_or o (only_where b i) ≡ o
-    or_some o b j e = ap (λ p. option_or p (only_where b i)) e ∙ sym e
-
-    or_none : (o : Option ℕ) → option_or o None ≡ o
-    or_none None = refl
-    or_none (Some n) = refl
-
-    by_test : (b : Bool) → (n.0 == m.0) ≡ b
-        → option_or (index_of (take i values) m) (only_where b i) ≡ index_of (take i values) m
-    by_test true e =
-        or_some (index_of (take i values) m) true k (sym (same_index (take i values) n m (eqb-true n.0 m.0 e)) ∙ has)
-    by_test false e = or_none (index_of (take i values) m)
+    first_stays (λ v. same_value v.id m) values i d before within
+    (λ e. (
+      k,
+      sym (same_index (take i values) n m (ap (λ (x : ValueId). x.0) is
+          ∙ eqb-true (get_or values i d).id.0 m.0 e)) ∙ has,
+    )) old
 
 -- any other is the first of its number
 pub new_index : (values : List Value) (i : ℕ) (d : Value) (n m : ValueId) (before : Option ℕ) → i < length values
     → n ≡ (get_or values i d).id → index_of (take i values) n ≡ None → before ≡ index_of (take i values) m
     → (if n.0 == m.0 then Some i else before) ≡ index_of (take (i + 1) values) m
 new_index values i d n m before within is none old =
-    by_test (n.0 == m.0) refl
-    ∙ ap (λ (x : ValueId). option_or (index_of (take i values) m) (only_where (x.0 == m.0) i)) is
-    ∙ sym (index_more values i d m within)
-  where
-    or_none : (o : Option ℕ) → option_or o None ≡ o
-    or_none None = refl
-    or_none (Some n) = refl
-
-    by_test : (b : Bool) → (n.0 == m.0) ≡ b
-        → (if b then Some i else before) ≡ option_or (index_of (take i values) m) (only_where b i)
-    by_test true e =
-        ap (λ o. option_or o (Some i)) (sym (sym (same_index (take i values) n m (eqb-true n.0 m.0 e)) ∙ none))
-    by_test false e = old ∙ sym (or_none (index_of (take i values) m))
+    first_comes (λ v. same_value v.id m) values i d before (n.0 == m.0) within
+    (ap (λ (x : ValueId). x.0 == m.0) (sym is))
+    (λ e. sym (same_index (take i values) n m (eqb-true n.0 m.0 e)) ∙ none) old

@@ -1,8 +1,8 @@
 -- An item more: the first value that may come next by index is the next one of the first order.
 use Rattle.std.proofs.Common.{◌≡◌, ◌≢◌, ℕ, zero, suc, ◌+◌, ◌==◌, ◌<◌, Bool, true, false, not, ◌&&◌, ◌||◌, ◌⊎◌, inl, inr}
-use Rattle.std.proofs.Common.{int_lt, if◌then◌else◌, List, [], ◌∷◌, ◌++◌, length, drop, get_or, filter, filter_map}
-use Rattle.std.proofs.Common.{slice_get, slice_set, map, fold, Option, None, Some, refl, sym, subst, ap, ◌∙◌, arith}
-use Rattle.std.specs.List.{All, cons_option, flat_map, list_all, list_any}
+use Rattle.std.proofs.Common.{int_lt, if◌then◌else◌, List, [], ◌∷◌, ◌++◌, length, drop, get_or, filter}
+use Rattle.std.proofs.Common.{slice_get, slice_set, map, Option, None, Some, refl, sym, subst, ap, ◌∙◌, arith}
+use Rattle.std.specs.List.{All, cons_option, list_all, list_any}
 use Rattle.std.proofs.lemmas.Bool.{and_parts, cases_eq, eqb-true, eq-eqb, ne_eqb, or_cases}
 use Rattle.std.proofs.lemmas.Bool.Decides.{nat_tests}
 use Rattle.std.proofs.lemmas.List.{append-nil, append_assoc, drop_more, flat_map_more, get_or-set_other}
@@ -20,9 +20,10 @@ use Rattle.ssa_ir.specs.FirstOrder.{put_by_number, ready_or_later, same_value, s
 use Rattle.ssa_ir.specs.OpKinds.{is_call, is_follower, is_phi}
 use Rattle.block_order.specs.declared.order.Item.{Item}
 use Rattle.block_order.specs.Items.{AreInFirstOrder, IsItem, item_values, values_at}
-use Rattle.block_order.specs.Dependencies.{all_placed, is_at}
-use Rattle.block_order.specs.Placing.{Begins, is_open, is_other, may_come, next_from, open_from, place_all, place_item}
-use Rattle.block_order.specs.Placing.{values_of_items}
+use Rattle.block_order.specs.tables.Dependencies.{all_placed, is_at}
+use Rattle.block_order.specs.tables.Placing.{Begins, is_open, is_other, may_come, next_from, open_from, place_all}
+use Rattle.block_order.specs.tables.Placing.{place_item}
+use Rattle.block_order.specs.tables.Placing.{values_of_items}
 use Rattle.block_order.specs.Apart.{AreApart, IsApart}
 use Rattle.block_order.proofs.DependencyLemmas.{Flagged, ready_by_index}
 use Rattle.gossa_base.proofs.ListPlaces.{At, same_at}

@@ -1,20 +1,19 @@
 -- The lists of who waits for whom, and what they count.
 use Rattle.std.proofs.Common.{◌≡◌, ℕ, zero, suc, ◌+◌, ◌==◌, ◌<◌, ◌≤◌, ◌⊎◌, inl, inr, Bool, true, false, nat_lt}
-use Rattle.std.proofs.Common.{if◌then◌else◌, List, [], ◌∷◌, ◌++◌, length, get_or, set, map, replicate, filter_map}
-use Rattle.std.proofs.Common.{slice_get, Vec, Global, Option, None, Some, refl, subst, sym, ap, ◌∙◌, arith}
-use Rattle.std.specs.List.{All, cons_option, fold}
+use Rattle.std.proofs.Common.{if◌then◌else◌, List, [], ◌∷◌, ◌++◌, length, get_or, replicate, filter_map}
+use Rattle.std.proofs.Common.{slice_get, Option, None, Some, refl, subst, sym, ap, ◌∙◌, arith}
+use Rattle.std.specs.List.{All, cons_option}
 use Rattle.std.proofs.lemmas.Bool.{cases_eq, cases_order, eq-eqb, le-ltb, lt-ltb, ne_eqb}
-use Rattle.std.proofs.lemmas.List.{get_or-replicate, get_or-set_other, get_or-set_same, length-replicate, length-set}
-use Rattle.std.proofs.lemmas.List.{map-set}
-use Rattle.std.proofs.lemmas.List.Elements.{All-append, All-tail}
+use Rattle.std.proofs.lemmas.List.{get_or-replicate, get_or-set_other, get_or-set_same, length-set}
+use Rattle.std.proofs.lemmas.List.Elements.{All-append}
 use Rattle.std.proofs.lemmas.Option.{slice_get_within}
 use Rattle.gossa_base.specs.declared.ids.ValueId.{ValueId}
 use Rattle.ssa_ir.specs.declared.func.Value.{Value}
 use Rattle.ssa_ir.specs.FirstOrder.{same_value}
 use Rattle.ssa_ir.specs.OpKinds.{changes_memory}
-use Rattle.block_order.specs.Dependencies.{dependencies, index_of, reader_indexes, reads_memory_of}
+use Rattle.block_order.specs.tables.Dependencies.{dependencies, index_of, reader_indexes, reads_memory_of}
 use Rattle.gossa_base.specs.Lists.{indexes_from}
-use Rattle.block_order.specs.Waiting.{AreWaiters, occurs, waiters_of, with_waiter, with_waiters}
+use Rattle.block_order.specs.tables.Waiting.{AreWaiters, occurs, waiters_of, with_waiter, with_waiters}
 use Rattle.gossa_base.proofs.ListPlaces.{At, first_at, same_at}
 
 -- ---- what is waited for stands in the block

@@ -1,22 +1,22 @@
 -- The counts of what is waited for, and the set of those that may come next.
-use Rattle.std.proofs.Common.{◌≡◌, ℕ, zero, suc, ◌+◌, ◌-◌, ◌==◌, ◌<◌, ◌≤◌, ◌⊎◌, inl, inr, Bool, true, false, not, ◌&&◌}
-use Rattle.std.proofs.Common.{nat_lt, if◌then◌else◌, List, [], ◌∷◌, ◌++◌, length, get_or, set, map, take, slice_get}
-use Rattle.std.proofs.Common.{slice_index, slice_set, Option, None, Some, Bor, MatchOption, IfSome, IsTrue, nat_cmp}
-use Rattle.std.proofs.Common.{is_gt, refl, subst, sym, ap, ◌∙◌, arith}
+use Rattle.std.proofs.Common.{◌≡◌, ℕ, zero, suc, ◌+◌, ◌-◌, ◌==◌, ◌<◌, ◌≤◌, ◌⊎◌, inl, inr, Bool, true, false, ◌&&◌}
+use Rattle.std.proofs.Common.{if◌then◌else◌, List, [], ◌∷◌, length, get_or, set, map, take, slice_get}
+use Rattle.std.proofs.Common.{slice_index, slice_set, Option, None, Some, nat_cmp}
+use Rattle.std.proofs.Common.{refl, subst, sym, ap, ◌∙◌, arith}
 use Rattle.std.specs.BTreeSet.{BTreeSet, contains}
 use Rattle.std.specs.List.{All, list_all}
-use Rattle.std.proofs.lemmas.Bool.{and_parts, cases_eq, cases_order, eqb-true, eq-eqb, false_from_ne_true, le-ltb}
-use Rattle.std.proofs.lemmas.Bool.{lt-ltb, ne_eqb}
-use Rattle.std.proofs.lemmas.Bool.Decides.{nat_tests}
-use Rattle.std.proofs.lemmas.List.{get_or-map, get_or-set_other, get_or-set_same, get_or_past, length-map, length-set}
+use Rattle.std.proofs.lemmas.Bool.{cases_eq, cases_order, eq-eqb, false_from_ne_true}
+use Rattle.std.proofs.lemmas.Bool.{ne_eqb}
+use Rattle.std.proofs.lemmas.List.{get_or-map, get_or-set_other, get_or-set_same, length-map, length-set}
 use Rattle.std.proofs.lemmas.List.{set-get_or, set_past, take_more}
-use Rattle.std.proofs.lemmas.Option.{get_or_from_slice_get, slice_get-get_or, slice_get_past, slice_get_within}
+use Rattle.std.proofs.lemmas.Option.{get_or_from_slice_get, slice_get_within}
 use Rattle.ssa_ir.specs.declared.func.Value.{Value}
-use Rattle.block_order.specs.Dependencies.{all_placed, dependencies, is_at}
-use Rattle.block_order.specs.Placing.{is_open, may_come, next_from}
-use Rattle.block_order.specs.Waiting.{AreCounts, AreReady, AreWaiters, IsFirst, IsWaiting, may_start, occurs, starts}
-use Rattle.block_order.specs.Waiting.{unplaced, waiters_of}
-use Rattle.gossa_base.proofs.ListPlaces.{At, same_at}
+use Rattle.block_order.specs.tables.Dependencies.{dependencies, is_at}
+use Rattle.block_order.specs.tables.Placing.{is_open, may_come, next_from}
+use Rattle.block_order.specs.tables.Waiting.{AreCounts, AreReady, IsFirst, IsWaiting, may_start, occurs}
+use Rattle.block_order.specs.tables.Waiting.{starts}
+use Rattle.block_order.specs.tables.Waiting.{unplaced, waiters_of}
+use Rattle.gossa_base.proofs.ListPlaces.{At}
 use Rattle.block_order.proofs.WaiterLemmas.{occurs_push}
 
 -- ---- a count that falls

@@ -1,6 +1,4 @@
 pub mod Apart
-pub mod Dependencies
 pub mod Items
-pub mod Placing
-pub mod Selects
-pub mod Waiting
+pub mod LowestOnCycle
+pub mod tables

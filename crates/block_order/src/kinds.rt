@@ -3,7 +3,7 @@
 ghost use Rattle.std.specs.Prelude.{◌≡◌, ◌||◌};
 ghost use Rattle.std.specs.List.{list_any};
 ghost use Rattle.ssa_ir.specs.FirstOrder as order;
-ghost use Rattle.block_order.specs.Placing as placing;
+ghost use Rattle.block_order.specs.tables.Placing as placing;
 
 use gossa_base::ValueId;
 use ssa_ir::{Op, Value, op_row};

@@ -4,11 +4,11 @@ ghost use Rattle.std.specs.Prelude.{◌≡◌, map, filter, IfOk};
 ghost use Rattle.std.specs.List.{All};
 ghost use Rattle.ssa_ir.specs.OpKinds.{is_phi as is_phi_op};
 ghost use Rattle.block_order.specs.Items.{AreInFirstOrder, IsItem};
-ghost use Rattle.block_order.specs.Placing as spec;
-ghost use Rattle.block_order.specs.Waiting as waiting;
+ghost use Rattle.block_order.specs.tables.Placing as spec;
+ghost use Rattle.block_order.specs.tables.Waiting as waiting;
 ghost use Rattle.block_order.specs.Apart.{AreApart};
 
-use crate::dependencies::index_table;
+use crate::block_values::BlockValues;
 use crate::selects::item_at;
 use crate::waiters::Waiters;
 use crate::waiting::{count_waiting, first_of, place_item, ready_set};
@@ -82,10 +82,10 @@ pub fn first_order_of(alloc: Global, values: &[Value]) -> Result<Vec<Item>, NoMe
     requires { AreApart values.now }
     ensures { IfOk result (λ items. AreInFirstOrder values.now items.items) }
 {
-    let table = index_table(alloc, values)?;
+    let block = BlockValues::new(alloc, values)?;
     let placed = phi_flags(alloc, values)?;
     let items = phi_items(alloc, values)?;
     let mut waiters = Waiters::none(alloc, values.len())?;
-    let counts = count_waiting(alloc, values, &table, placed.as_slice(), &mut waiters)?;
+    let counts = count_waiting(alloc, &block, placed.as_slice(), &mut waiters)?;
     go_on(alloc, values, &waiters, placed, counts, items)
 }

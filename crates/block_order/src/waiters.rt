@@ -2,7 +2,7 @@
 
 ghost use Rattle.std.specs.Prelude.{◌≡◌, ◌<◌, [], length, replicate, IfOk, OnOk};
 ghost use Rattle.std.specs.List.{All};
-ghost use Rattle.block_order.specs.Waiting as spec;
+ghost use Rattle.block_order.specs.tables.Waiting as spec;
 
 use gossa_base::NoMemory;
 use std::alloc::Global;

@@ -1,20 +1,18 @@
 // What of a block is still to be placed: for how many each value waits, and which may come next.
 
 ghost use Rattle.std.specs.Prelude.{◌≡◌, ℕ, ◌+◌, ◌-◌, ◌==◌, ◌<◌, ◌≤◌, ◌↔◌, IsTrue, true, false, [], length, map};
-ghost use Rattle.std.specs.Prelude.{replicate, nat_eq, slice_index, slice_set, IfOk, OnOk};
+ghost use Rattle.std.specs.Prelude.{replicate, slice_index, slice_set, IfOk, OnOk};
 ghost use Rattle.std.specs.List.{All};
-ghost use Rattle.indexmap.specs.IndexMap.{get};
-ghost use Rattle.gossa_base.specs.declared.ids.ValueId.{ValueId as IrValueId};
-ghost use Rattle.block_order.specs.Dependencies as graph;
-ghost use Rattle.block_order.specs.Placing as placing;
-ghost use Rattle.block_order.specs.Waiting as spec;
+ghost use Rattle.block_order.specs.tables.Dependencies as graph;
+ghost use Rattle.block_order.specs.tables.Placing as placing;
+ghost use Rattle.block_order.specs.tables.Waiting as spec;
 
+use crate::block_values::BlockValues;
 use crate::dependencies::dependencies;
 use crate::kinds::is_other;
 use crate::order::Item;
 use crate::waiters::Waiters;
 use gossa_base::NoMemory;
-use indexmap::IndexMap;
 use ssa_ir::Value;
 use std::alloc::Global;
 use std::collections::BTreeSet;
@@ -45,20 +43,19 @@ fn unplaced(placed: &[bool], indexes: &[usize]) -> usize
 /// For how many each value waits; notes who waits for whom.
 pub(crate) fn count_waiting(
     alloc: Global,
-    values: &[Value],
-    table: &IndexMap<u32, usize>,
+    block: &BlockValues,
     placed: &[bool],
     waiters: &mut Waiters,
 ) -> Result<Vec<usize>, NoMemory>
-    requires table { (id : IrValueId) → get nat_eq table.now id.0 ≡ graph.index_of values.now id }
-    requires none { waiters.old ≡ replicate (length values.now) [] }
-    ensures waiters { OnOk result (spec.AreWaiters values.now waiters.new) }
+    requires { waiters.old ≡ replicate (length block.now) [] }
+    ensures waiters { OnOk result (spec.AreWaiters block.now waiters.new) }
     ensures counts { IfOk result (λ counts. counts.items ≡ map
-        (λ v. spec.unplaced placed.now (graph.dependencies values.now v)) values.now) }
+        (λ v. spec.unplaced placed.now (graph.dependencies block.now v)) block.now) }
 {
     let mut counts = Vec::new(alloc);
+    let values = block.values();
     for (index, value) in values.iter().enumerate() {
-        let awaited = dependencies(alloc, values, table, value)?;
+        let awaited = dependencies(alloc, block, value)?;
         waiters.put_all(index, awaited.as_slice())?;
         counts.push(unplaced(placed, awaited.as_slice()))?;
     }

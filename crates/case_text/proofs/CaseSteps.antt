@@ -7,7 +7,7 @@ use Rattle.ssa_ir.specs.Texts.{newline}
 use Rattle.ssa_lines.specs.Limits.{limit_of}
 use Rattle.ssa_lines.specs.Lines.{lines_of}
 use Rattle.ssa_lines.specs.declared.refusal.LimitKind.TheVariants.{LineBytes}
-use Rattle.ssa_lines.specs.declared.refusal.TextRefusal.TheVariants.{BadByte, BadLine, NumberTooLarge, Duplicate, Limit}
+use Rattle.ssa_lines.specs.declared.refusal.TextFault.TheVariants.{BadByte, BadLine, NumberTooLarge, Duplicate, Limit}
 use Rattle.ssa_lines.proofs.LineLemmas.{line_in_front}
 use Rattle.case_text.specs.CaseReading.{CasesRead, in_place, is_too_large, is_twice, limit_passed, fault_of_form}
 use Rattle.case_text.specs.CaseReading.{fault_of, behind, then_read, read_from}

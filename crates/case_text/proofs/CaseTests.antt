@@ -7,8 +7,8 @@ use Rattle.ssa_lines.specs.Lines.{is_allowed}
 use Rattle.ssa_lines.specs.Words.{words_of}
 use Rattle.ssa_lines.specs.declared.refusal.LimitKind.{LimitKind}
 use Rattle.ssa_lines.specs.declared.refusal.LimitKind.TheVariants.{LineBytes}
-use Rattle.ssa_lines.specs.declared.refusal.TextRefusal.{TextRefusal}
-use Rattle.ssa_lines.specs.declared.refusal.TextRefusal.TheVariants.{BadByte, BadLine, NumberTooLarge, Duplicate, Limit}
+use Rattle.ssa_lines.specs.declared.refusal.TextFault.{TextFault}
+use Rattle.ssa_lines.specs.declared.refusal.TextFault.TheVariants.{BadByte, BadLine, NumberTooLarge, Duplicate, Limit}
 use Rattle.case_text.specs.CaseForms.{case_form_of}
 use Rattle.case_text.specs.CaseReading.{CasesRead, in_place, is_too_large, is_twice, limit_passed, fault_of_form}
 use Rattle.case_text.specs.CaseReading.{fault_of, then_read}
@@ -26,7 +26,7 @@ abbrev pub Passes : CasesRead → CaseForm → Type 0
 Passes r form = AllPass (in_place r form) (is_too_large form) (is_twice r form) (limit_passed r form)
 
 -- the first fault, by what the tests answer
-abbrev first_fault : ℕ → (placed large twice : Bool) → Option LimitKind → Option TextRefusal
+abbrev first_fault : ℕ → (placed large twice : Bool) → Option LimitKind → Option TextFault
 first_fault line placed large twice limit =
     if not placed then Some (BadLine line)
     else if large then Some (NumberTooLarge line)
@@ -52,7 +52,7 @@ pub no_form_fault : (r : CasesRead) (line : ℕ) (form : CaseForm) → Passes r 
 no_form_fault r line form h i =
     first_fault line (h.in_its_place i) (h.is_small i) (h.is_new i) (h.is_within i)
 
-within : (line : ℕ) (long allowed : Bool) (fault : Option TextRefusal)
+within : (line : ℕ) (long allowed : Bool) (fault : Option TextFault)
     → (if long then Some (Limit LineBytes line) else if not allowed then Some (BadByte line) else fault) ≡ None
     → fault ≡ None
 within line true allowed fault h = cc
@@ -63,11 +63,11 @@ within line false true fault h = h
 pub form_has_no_fault : (r : CasesRead) (line : ℕ) (bytes : List ℕ) → fault_of r line bytes ≡ None
     → fault_of_form r line (case_form_of (words_of bytes)) ≡ None
 form_has_no_fault r line bytes h =
-    let fault : Option TextRefusal = fault_of_form r line (case_form_of (words_of bytes)) in
+    let fault : Option TextFault = fault_of_form r line (case_form_of (words_of bytes)) in
     within line (nat_lt MAX_LINE_BYTES (length bytes)) (is_allowed bytes) fault h
 
 -- a line that was read has no fault, and the lines behind it were read
-pub line_was_read : (fault : Option TextRefusal) (r end : CasesRead) (go : CasesRead → Result CasesRead TextRefusal)
+pub line_was_read : (fault : Option TextFault) (r end : CasesRead) (go : CasesRead → Result CasesRead TextFault)
     → then_read fault r go ≡ Ok end → (fault ≡ None) × (go r ≡ Ok end)
 line_was_read None r end go h = (refl, h)
 line_was_read (Some fault) r end go h = cc

@@ -3,7 +3,7 @@ use Rattle.std.proofs.Common.{◌≡◌, ℕ, ◌+◌, List, [], ◌∷◌, Opti
 use Rattle.ssa_ir.specs.declared.case.Case.{Case}
 use Rattle.ssa_lines.specs.Lines.{lines_of}
 use Rattle.ssa_lines.specs.Words.{words_of}
-use Rattle.ssa_lines.specs.declared.refusal.TextRefusal.{TextRefusal}
+use Rattle.ssa_lines.specs.declared.refusal.TextFault.{TextFault}
 use Rattle.case_text.specs.CaseForms.{case_form_of}
 use Rattle.case_text.specs.CaseReading.{CasesRead, no_cases, with_case, fault_of, behind, read_from, cases_or_unknown}
 use Rattle.case_text.specs.CaseReading.{finished, read_cases}
@@ -14,7 +14,7 @@ use Rattle.case_text.proofs.CasesKept.{facts_kept, none_kept}
 use Rattle.case_text.proofs.CaseTests.{form_has_no_fault, line_was_read}
 
 -- behind no lines stands what was read before them
-same_read : (r s : CasesRead) → (◌≡◌ {A = Result CasesRead TextRefusal} (Ok r) (Ok s)) → r ≡ s
+same_read : (r s : CasesRead) → (◌≡◌ {A = Result CasesRead TextFault} (Ok r) (Ok s)) → r ≡ s
 same_read r s h = cc
 
 -- all lines keep what was read
@@ -46,7 +46,7 @@ pub facts_of_cases : (names : List (List ℕ)) (first : ℕ) (text : List ℕ) (
     → read_cases names first text ≡ Ok cases → CasesFacts names cases
 facts_of_cases names first text cases e = go (read_from names no_cases first (lines_of text)) refl e
   where
-    go : (o : Result CasesRead TextRefusal) → read_from names no_cases first (lines_of text) ≡ o
+    go : (o : Result CasesRead TextFault) → read_from names no_cases first (lines_of text) ≡ o
         → finished o ≡ Ok cases → CasesFacts names cases
     go (Err fault) read e = cc
     go (Ok r) read e =

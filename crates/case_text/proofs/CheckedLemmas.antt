@@ -2,6 +2,7 @@
 use Rattle.std.proofs.Common.{◌≡◌, ℕ, false, true, List, Option, None, Some, Ok, Err, refl, sym, ap, subst, ◌∙◌}
 use Rattle.ssa_lines.specs.ReadsAs.{RefusesAs}
 use Rattle.ssa_lines.specs.Words.{words_of}
+use Rattle.ssa_lines.specs.declared.refusal.TextFault.{TextFault}
 use Rattle.ssa_lines.specs.declared.refusal.TextRefusal.{TextRefusal}
 use Rattle.ssa_lines.proofs.RefusalLemmas.{refuses_so}
 use Rattle.case_text.specs.CaseForms.{case_form_of}
@@ -11,12 +12,12 @@ use Rattle.case_text.specs.CaseReading.{form_or_fault, checked_form, read_line}
 use Rattle.case_text.proofs.CaseTests.{Passes, passes, form_has_no_fault}
 
 -- a fault of a line is what is read behind it
-passed_on : (fault : Option TextRefusal) (form : CaseForm) (next : CasesRead) (refusal : TextRefusal)
-    → form_or_fault fault form ≡ Err refusal → then_read fault next Ok ≡ Err refusal
-passed_on (Some fault) form next refusal e = let same : fault ≡ refusal = cc in ap Err same
-passed_on None form next refusal e = cc
+passed_on : (fault : Option TextFault) (form : CaseForm) (next : CasesRead) (first : TextFault)
+    → form_or_fault fault form ≡ Err first → then_read fault next Ok ≡ Err first
+passed_on (Some fault) form next first e = let same : fault ≡ first = cc in ap Err same
+passed_on None form next first e = cc
 
-no_fault : (fault : Option TextRefusal) (form given : CaseForm) → form_or_fault fault form ≡ Ok given
+no_fault : (fault : Option TextFault) (form given : CaseForm) → form_or_fault fault form ≡ Ok given
     → (fault ≡ None) × (given ≡ form)
 no_fault (Some fault) form given e = cc
 no_fault None form given e = (refl, cc)

@@ -4,6 +4,7 @@ use Rattle.std.proofs.Common.{arith}
 use Rattle.ssa_lines.specs.Lines.{lines_of}
 use Rattle.ssa_lines.specs.ReadsAs.{RefusesAs}
 use Rattle.ssa_lines.specs.Words.{words_of}
+use Rattle.ssa_lines.specs.declared.refusal.TextFault.{TextFault}
 use Rattle.ssa_lines.specs.declared.refusal.TextRefusal.{TextRefusal}
 use Rattle.ssa_lines.proofs.RefusalLemmas.{refuses_so}
 use Rattle.case_text.specs.CaseForms.{case_form_of}
@@ -11,15 +12,15 @@ use Rattle.case_text.specs.CaseReading.{CasesRead, no_cases, fault_of, behind, t
 use Rattle.case_text.proofs.LineCounts.{few_lines_of}
 
 -- a line and then the others
-one_line : (fault : Option TextRefusal) (next : CasesRead) (go : CasesRead → Result CasesRead TextRefusal)
+one_line : (fault : Option TextFault) (next : CasesRead) (go : CasesRead → Result CasesRead TextFault)
     (read : CasesRead) → then_read fault next Ok ≡ Ok read → then_read fault next go ≡ go read
 one_line (Some fault) next go read e = cc
 one_line None next go read e = let same : next ≡ read = cc in ap go same
 
-one_fault : (fault : Option TextRefusal) (next : CasesRead) (go : CasesRead → Result CasesRead TextRefusal)
-    (refusal : TextRefusal) → then_read fault next Ok ≡ Err refusal → then_read fault next go ≡ Err refusal
-one_fault (Some fault) next go refusal e = e
-one_fault None next go refusal e = cc
+one_fault : (fault : Option TextFault) (next : CasesRead) (go : CasesRead → Result CasesRead TextFault)
+    (first : TextFault) → then_read fault next Ok ≡ Err first → then_read fault next go ≡ Err first
+one_fault (Some fault) next go first e = e
+one_fault None next go first e = cc
 
 -- what is read of the lines left, behind what was read, is what is read of all from the first on
 pub record GoesOn (names : List (List ℕ)) (text : List ℕ) (first : ℕ) (r : CasesRead) (number : ℕ)
@@ -51,7 +52,7 @@ module _ (names : List (List ℕ)) (text : List ℕ) (first : ℕ) where
       count = omega (arith, so_far.count, ap length taken);
     }
 
-    fault_stays : (fault : TextRefusal) → read_line names r number bytes ≡ Err fault
+    fault_stays : (fault : TextFault) → read_line names r number bytes ≡ Err fault
         → read_from names no_cases first (lines_of text) ≡ Err fault
     fault_stays fault e =
         sym whole_is

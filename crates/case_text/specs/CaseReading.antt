@@ -18,9 +18,9 @@ use Rattle.ssa_lines.specs.declared.forms.Spelled.TheVariants.{Fits, TooLarge}
 use Rattle.ssa_lines.specs.declared.refusal.LimitKind.{LimitKind}
 use Rattle.ssa_lines.specs.declared.refusal.LimitKind.TheVariants.{LineBytes, Cases, Bound, Replies, MemBytes}
 use Rattle.ssa_lines.specs.declared.refusal.LimitKind.TheVariants.{JunkWords}
-use Rattle.ssa_lines.specs.declared.refusal.TextRefusal.{TextRefusal}
-use Rattle.ssa_lines.specs.declared.refusal.TextRefusal.TheVariants.{BadByte, BadLine, NumberTooLarge, Duplicate}
-use Rattle.ssa_lines.specs.declared.refusal.TextRefusal.TheVariants.{UnknownRef, Limit}
+use Rattle.ssa_lines.specs.declared.refusal.TextFault.{TextFault}
+use Rattle.ssa_lines.specs.declared.refusal.TextFault.TheVariants.{BadByte, BadLine, NumberTooLarge, Duplicate}
+use Rattle.ssa_lines.specs.declared.refusal.TextFault.TheVariants.{UnknownRef, Limit}
 use Rattle.case_text.specs.CaseForms.{case_form_of}
 use Rattle.case_text.specs.declared.forms.CaseHead.{CaseHead}
 use Rattle.case_text.specs.declared.forms.SymLine.{SymLine}
@@ -178,7 +178,7 @@ limit_passed r (ReplyJunk (Fits words)) =
 limit_passed r _ = None
 
 -- what is wrong with a line of this form, the first of all that is
-abbrev pub fault_of_form : CasesRead → (line : ℕ) → CaseForm → Option TextRefusal
+abbrev pub fault_of_form : CasesRead → (line : ℕ) → CaseForm → Option TextFault
 fault_of_form r line form =
     if not (in_place r form) then Some (BadLine line)
     else if is_too_large form then Some (NumberTooLarge line)
@@ -186,7 +186,7 @@ fault_of_form r line form =
     else limit_of line (limit_passed r form)
 
 -- what is wrong with a line
-abbrev pub fault_of : CasesRead → (line : ℕ) → List ℕ → Option TextRefusal
+abbrev pub fault_of : CasesRead → (line : ℕ) → List ℕ → Option TextFault
 fault_of r line bytes =
     if nat_lt MAX_LINE_BYTES (length bytes) then Some (Limit LineBytes line)
     else if not (is_allowed bytes) then Some (BadByte line)
@@ -292,46 +292,46 @@ behind names r line (ReplyFill (Fits w)) = changed r (in_reply (give_reply_fill 
 behind names r line (Clobber (Fits w)) = changed r (in_reply (give_clobber w))
 behind names r line _ = r
 
-abbrev pub then_read : Option TextRefusal → CasesRead → (CasesRead → Result CasesRead TextRefusal)
-    → Result CasesRead TextRefusal
+abbrev pub then_read : Option TextFault → CasesRead → (CasesRead → Result CasesRead TextFault)
+    → Result CasesRead TextFault
 then_read (Some fault) r go = Err fault
 then_read None r go = go r
 
 -- the lines from this number on, behind what was read: all of them, or the first fault
-abbrev pub read_from : (names : List (List ℕ)) → CasesRead → (line : ℕ) → List (List ℕ) → Result CasesRead TextRefusal
+abbrev pub read_from : (names : List (List ℕ)) → CasesRead → (line : ℕ) → List (List ℕ) → Result CasesRead TextFault
 read_from names r line [] = Ok r
 read_from names r line (bytes ∷ lines) =
     then_read (fault_of r line bytes) (behind names r line (case_form_of (words_of bytes)))
     (λ next. read_from names next (line + 1) lines)
 
-abbrev pub cases_or_unknown : List Case → Option ℕ → Result (List Case) TextRefusal
+abbrev pub cases_or_unknown : List Case → Option ℕ → Result (List Case) TextFault
 cases_or_unknown cases None = Ok cases
 cases_or_unknown cases (Some line) = Err (UnknownRef line)
 
 -- the cases that were read, where all their functions are there
-abbrev pub finish : CasesRead → Result (List Case) TextRefusal
+abbrev pub finish : CasesRead → Result (List Case) TextFault
 finish r = cases_or_unknown (with_case r.cases r.current) r.unknown
 
-abbrev pub finished : Result CasesRead TextRefusal → Result (List Case) TextRefusal
+abbrev pub finished : Result CasesRead TextFault → Result (List Case) TextFault
 finished (Ok r) = finish r
 finished (Err fault) = Err fault
 
 -- the cases that a text spells, among functions of these names, with lines numbered from `first`; or the first fault
-abbrev pub read_cases : (names : List (List ℕ)) → (first : ℕ) → List ℕ → Result (List Case) TextRefusal
+abbrev pub read_cases : (names : List (List ℕ)) → (first : ℕ) → List ℕ → Result (List Case) TextFault
 read_cases names first text = finished (read_from names no_cases first (lines_of text))
 
 -- ---- what a reader's own calls answer
 
 -- the form of a line without a fault, or its fault
-abbrev pub form_or_fault : Option TextRefusal → CaseForm → Result CaseForm TextRefusal
+abbrev pub form_or_fault : Option TextFault → CaseForm → Result CaseForm TextFault
 form_or_fault (Some fault) form = Err fault
 form_or_fault None form = Ok form
 
-abbrev pub checked_form : CasesRead → (line : ℕ) → List ℕ → Result CaseForm TextRefusal
+abbrev pub checked_form : CasesRead → (line : ℕ) → List ℕ → Result CaseForm TextFault
 checked_form r line bytes = form_or_fault (fault_of r line bytes) (case_form_of (words_of bytes))
 
 -- one line behind what was read: what is read with it, or its fault
-abbrev pub read_line : (names : List (List ℕ)) → CasesRead → (line : ℕ) → List ℕ → Result CasesRead TextRefusal
+abbrev pub read_line : (names : List (List ℕ)) → CasesRead → (line : ℕ) → List ℕ → Result CasesRead TextFault
 read_line names r line bytes =
     then_read (fault_of r line bytes) (behind names r line (case_form_of (words_of bytes))) Ok
 
@@ -339,6 +339,6 @@ abbrev pub part_of : CasesRead → CasePart
 part_of r = record { cases = with_case r.cases r.current; unknown = r.unknown }
 
 -- the cases that were read, whether all their functions are there or not; or the first fault
-abbrev pub case_part : Result CasesRead TextRefusal → Result CasePart TextRefusal
+abbrev pub case_part : Result CasesRead TextFault → Result CasePart TextFault
 case_part (Ok r) = Ok (part_of r)
 case_part (Err fault) = Err fault

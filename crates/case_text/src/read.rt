@@ -12,10 +12,8 @@ use crate::reader::CaseReader;
 use gossa_base::{Name, NoMemory, Sequence};
 use ssa_ir::limits::MAX_LINE_BYTES;
 use ssa_ir::{Cases, Sig, Sigs};
-use ssa_lines::{LimitKind, TextLines, TextRefusal, is_allowed};
+use ssa_lines::{LimitKind, TextFault, TextLines, TextRefusal, is_allowed};
 use std::alloc::Global;
-
-/// How many bytes a line may have.
 
 /// The cases of a text, and the first line that names a function that isn't there, if one does.
 #[derive(Drop)]
@@ -47,7 +45,7 @@ pub fn read_cases(
     let names = names_of(alloc, funcs.as_slice())?;
     let part = read_case_part(alloc, text, first_line, names.as_slice())?;
     match part.unknown {
-        Some(line) => Err(TextRefusal::UnknownRef(line)),
+        Some(line) => Err(TextRefusal::from(TextFault::UnknownRef(line))),
         None => Ok(part.cases),
     }
 }
@@ -138,14 +136,14 @@ fn checked_form(
     ensures { ReadsAs result (spec.checked_form reader.now number line.now) }
 {
     if MAX_LINE_BYTES < line.len() {
-        return Err(TextRefusal::Limit(LimitKind::LineBytes, number));
+        return Err(TextRefusal::from(TextFault::Limit(LimitKind::LineBytes, number)));
     }
     if !is_allowed(line) {
-        return Err(TextRefusal::BadByte(number));
+        return Err(TextRefusal::from(TextFault::BadByte(number)));
     }
     let form = read_case_form(alloc, line)?;
     match reader.fault(number, &form) {
-        Some(fault) => Err(fault),
+        Some(fault) => Err(TextRefusal::from(fault)),
         None => Ok(form),
     }
 }

@@ -25,7 +25,7 @@ use ssa_ir::limits::{
     MAX_BOUND, MAX_CASE_BYTES, MAX_CASES, MAX_JUNK_WORDS, MAX_PIECE_BYTES, MAX_REPLIES,
 };
 use ssa_ir::{Cases, Piece, Words};
-use ssa_lines::{LimitKind, NameSet, Spelled, TextRefusal};
+use ssa_lines::{LimitKind, NameSet, Spelled, TextFault};
 use std::alloc::Global;
 use std::marker::Model;
 
@@ -71,20 +71,20 @@ impl CaseReader {
     }
 
     /// What is wrong with a line of this form, the first of all that is.
-    pub(crate) fn fault(&self, line: u32, form: &CaseForm) -> Option<TextRefusal>
+    pub(crate) fn fault(&self, line: u32, form: &CaseForm) -> Option<TextFault>
         ensures { result ≡ fault_of_form self.now line form.now }
     {
         if !self.is_in_place(form) {
-            return Some(TextRefusal::BadLine(line));
+            return Some(TextFault::BadLine(line));
         }
         if is_too_large(form) {
-            return Some(TextRefusal::NumberTooLarge(line));
+            return Some(TextFault::NumberTooLarge(line));
         }
         if self.is_twice(form) {
-            return Some(TextRefusal::Duplicate(line));
+            return Some(TextFault::Duplicate(line));
         }
         let kind = self.limit_passed(form)?;
-        Some(TextRefusal::Limit(kind, line))
+        Some(TextFault::Limit(kind, line))
     }
 
     // Whether a line of this form may stand here.

@@ -9,8 +9,7 @@ use Rattle.ssa_ir.specs.declared.func.Func.{Func}
 use Rattle.ssa_ir.specs.declared.func.SsaUnit.{SsaUnit}
 use Rattle.ssa_check.specs.Failing.{MeetsAll}
 use Rattle.ssa_text.specs.UnitReading.{read_unit}
-use Rattle.ssa_lines.specs.declared.refusal.TextRefusal.{TextRefusal}
-use Rattle.ssa_lines.specs.declared.refusal.TextRefusal.TheVariants.{NoMemory as Wanting}
+use Rattle.ssa_lines.specs.declared.refusal.TextFault.{TextFault}
 use Rattle.gossa_core.specs.declared.status.CheckFault.{CheckFault}
 use Rattle.gossa_core.specs.declared.status.Status.{Status}
 use Rattle.gossa_core.specs.declared.status.Status.TheVariants.{Done as IsDone, NoMemory as IsNoMemory}
@@ -53,12 +52,12 @@ pub record SpellsTaken (c : Command) (text : List ℕ) : Type 0 where
   pub taken : Takes c unit
 
 -- a text spells one unit, or none
-one_unit : (spelled : Result SsaUnit TextRefusal) (u v : SsaUnit) → spelled ≡ Ok u → spelled ≡ Ok v → u ≡ v
+one_unit : (spelled : Result SsaUnit TextFault) (u v : SsaUnit) → spelled ≡ Ok u → spelled ≡ Ok v → u ≡ v
 one_unit spelled u v p q = let both : Ok u ≡ Ok v = sym p ∙ q in cc
 
-unrefused : (spelled : Result SsaUnit TextRefusal) (u : SsaUnit) (refusal : TextRefusal) → spelled ≡ Ok u
-    → spelled ≡ Err refusal → ⊥
-unrefused spelled u refusal p q = let both : Ok u ≡ Err refusal = sym p ∙ q in cc
+unrefused : (spelled : Result SsaUnit TextFault) (u : SsaUnit) (fault : TextFault) → spelled ≡ Ok u
+    → spelled ≡ Err fault → ⊥
+unrefused spelled u fault p q = let both : Ok u ≡ Err fault = sym p ∙ q in cc
 
 -- such a text is built
 built : (c : Command) (text : List ℕ) → SpellsTaken c text → LeavesUnbuilt c text → ⊥
@@ -68,9 +67,8 @@ built (Compile regs) text h other =
 built Run text h other = other
 
 -- and isn't refused
-unmisspelled : (c : Command) (text : List ℕ) (refusal : TextRefusal) → SpellsTaken c text → Misspells text refusal → ⊥
-unmisspelled c text Wanting h bad = bad
-unmisspelled c text refusal h bad = unrefused (read_unit text) h.unit refusal h.read bad
+unmisspelled : (c : Command) (text : List ℕ) (fault : TextFault) → SpellsTaken c text → Misspells text fault → ⊥
+unmisspelled c text fault h bad = unrefused (read_unit text) h.unit fault h.read bad
 
 -- function i of a unit that a command takes meets all checks
 taken_accepted : (c : Command) (u : SsaUnit) (i : ℕ) (f : Func) → Takes c u → slice_get u.funcs i ≡ Some f
@@ -102,8 +100,8 @@ complete_by_outcome command before after status NotBuilt e c no_read no_write te
     (whole_is before.left after.left text c.text left c.read.all c.read.end) c.unbuilt))
 complete_by_outcome command before after status TooLong e c no_read no_write text left few h =
     absurd (omega (arith, read_within before.left after.left text c.read.bytes left c.read.read, c.read.past, few))
-complete_by_outcome command before after status (Text refusal) e c no_read no_write text left few h =
-    absurd (unmisspelled command text refusal h (subst (λ t. Misspells t refusal)
+complete_by_outcome command before after status (Text fault) e c no_read no_write text left few h =
+    absurd (unmisspelled command text fault h (subst (λ t. Misspells t fault)
     (whole_is before.left after.left text c.text left c.read.all c.read.end) c.refused))
 complete_by_outcome command before after status (Check fault) e c no_read no_write text left few h =
     absurd (passing command text fault h (subst (λ t. FailsCheck t fault)

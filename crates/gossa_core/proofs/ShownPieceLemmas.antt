@@ -1,10 +1,8 @@
 -- Pieces of a run of bytes.
 use Rattle.std.proofs.Common.{◌≡◌, ℕ, zero, suc, ◌+◌, ◌-◌, ◌<◌, ◌≤◌, min, List, [], ◌∷◌, ◌++◌}
-use Rattle.std.proofs.Common.{length, take, drop, refl, sym, ap, ◌∙◌, arith}
+use Rattle.std.proofs.Common.{length, take, drop, refl, ap, ◌∙◌, arith}
 use Rattle.std.specs.List.{flat_map}
-use Rattle.std.proofs.Math.ListN.{drop_of_length-le}
-use Rattle.std.proofs.Math.Seq.{take-append_seam, drop-append_seam}
-use Rattle.std.proofs.lemmas.List.{append-nil, length-append, length-drop, take-append-drop}
+use Rattle.std.proofs.lemmas.List.{length-append, length-drop}
 use Rattle.gossa_base.proofs.ListPieces.{front_taken}
 use Rattle.gossa_core.specs.ShownText.{pieces_within, mem_line, run_text}
 

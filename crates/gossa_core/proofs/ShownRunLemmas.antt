@@ -4,7 +4,7 @@ use Rattle.std.proofs.Common.{length, take, drop, get_or, refl, sym, ap, ◌∙�
 use Rattle.std.specs.List.{flat_map}
 use Rattle.std.proofs.lemmas.List.{drop_more}
 use Rattle.gossa_core.specs.ShownText.{run_before, runs_of, run_text, changed_text}
-use Rattle.gossa_core.specs.RunLengths.{more_after, run_length}
+use Rattle.gossa_core.specs.tables.RunLengths.{more_after, run_length}
 
 -- a byte before m more at the front of a run: it goes on with them, or is a run of its own
 by_test : (b : Bool) (p q : ℕ × ℕ) (m : ℕ) (changes : List (ℕ × ℕ))

@@ -5,7 +5,6 @@ use Rattle.gossa_base.specs.Faults.{Faulted}
 use Rattle.gossa_base.specs.Whole.{AppendsPrefix}
 use Rattle.ssa_ir.specs.declared.func.SsaUnit.{SsaUnit}
 use Rattle.ssa_text.specs.UnitReading.{read_unit}
-use Rattle.ssa_lines.specs.declared.refusal.TextRefusal.TheVariants.{NoMemory as Wanting}
 use Rattle.gossa_core.specs.declared.status.Status.{Status}
 use Rattle.gossa_core.specs.declared.status.Status.TheVariants.{Done as IsDone, Refused as IsRefused, Usage as IsUsage}
 use Rattle.gossa_core.specs.declared.status.Status.TheVariants.{ReadFault as IsReadFault, WriteFault as IsWriteFault}
@@ -27,8 +26,7 @@ abbrev pub status_of : Outcome → Status
 status_of Done = IsDone
 status_of NotBuilt = IsRefused
 status_of TooLong = IsRefused
-status_of (Text Wanting) = IsNoMemory
-status_of (Text refusal) = IsRefused
+status_of (Text fault) = IsRefused
 status_of (Check fault) = IsRefused
 status_of Usage = IsUsage
 status_of ReadFault = IsReadFault
@@ -40,7 +38,7 @@ abbrev pub line_of : Outcome → List ℕ
 line_of Done = []
 line_of NotBuilt = codes "gossa: not built\n"
 line_of TooLong = codes "gossa: input too long\n"
-line_of (Text refusal) = refusal_line refusal
+line_of (Text fault) = refusal_line fault
 line_of (Check fault) = check_line fault
 line_of Usage = codes "usage: gossa compile [-regs=N] | run | step | demo SEED SIZE\n"
 line_of ReadFault = codes "gossa: read failed\n"

@@ -3,7 +3,7 @@ use Rattle.std.specs.Prelude.{◌≡◌, ℕ, List, Option, None, Some}
 use Rattle.std.specs.Io.KnownBytes.{Appends}
 use Rattle.gossa_base.specs.Faults.{Faulted}
 use Rattle.gossa_base.specs.Whole.{ReadsWhole, ReadsWithin, ReadsPast, AppendsPrefix}
-use Rattle.ssa_lines.specs.declared.refusal.TextRefusal.{TextRefusal}
+use Rattle.ssa_lines.specs.declared.refusal.TextFault.{TextFault}
 use Rattle.gossa_core.specs.declared.status.CheckFault.{CheckFault}
 use Rattle.gossa_core.specs.declared.status.Outcome.{Outcome}
 use Rattle.gossa_core.specs.declared.status.Outcome.TheVariants.{Done, NotBuilt, TooLong, Text, Check, Usage, ReadFault}
@@ -33,11 +33,11 @@ pub record IsNotBuilt (c : Command) (before after : World) : Type 0 where
   pub unwritten : NothingWritten before after
 
 -- the whole input was read, and this is its first fault
-pub record IsRefusedText (refusal : TextRefusal) (before after : World) : Type 0 where
+pub record IsRefusedText (fault : TextFault) (before after : World) : Type 0 where
   pub text : List ℕ
   pub read : ReadsWhole MAX_INPUT_BYTES before.left after.left text
   pub calm_source : NoReadFault before after
-  pub refused : Misspells text refusal
+  pub refused : Misspells text fault
   pub unwritten : NothingWritten before after
 
 -- the whole input was read, and this is the first fault of its unit
@@ -81,7 +81,7 @@ abbrev pub CommandCause : Command → World → World → Outcome → Type 0
 CommandCause c before after Done = Finishes c before after
 CommandCause c before after NotBuilt = IsNotBuilt c before after
 CommandCause c before after TooLong = IsTooLong before after
-CommandCause c before after (Text refusal) = IsRefusedText refusal before after
+CommandCause c before after (Text fault) = IsRefusedText fault before after
 CommandCause c before after (Check fault) = IsRefusedUnit fault before after
 CommandCause c before after Usage = ⊥
 CommandCause c before after ReadFault = MeetsReadFault before after

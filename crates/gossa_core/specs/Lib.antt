@@ -1,15 +1,18 @@
-pub mod Answer
-pub mod CaseText
-pub mod Causes
-pub mod CheckText
-pub mod Compiled
-pub mod Outputs
-pub mod RefusalText
-pub mod Refused
-pub mod RunLengths
-pub mod ShownText
-pub mod SigTables
-pub mod Status
-pub mod Unmade
+-- The answer of the program: words, outcomes, lines and causes.
 pub mod Words
+pub mod Status
+pub mod Answer
+pub mod Causes
+pub mod Refused
 pub mod Worlds
+pub mod Unmade
+-- What each command writes.
+pub mod Outputs
+pub mod Compiled
+pub mod ShownText
+pub mod CaseText
+-- Lines of the error stream.
+pub mod RefusalText
+pub mod CheckText
+-- What private contracts cite.
+pub mod tables

@@ -4,9 +4,9 @@ use Rattle.ssa_lines.specs.declared.refusal.LimitKind.{LimitKind}
 use Rattle.ssa_lines.specs.declared.refusal.LimitKind.TheVariants.{LineBytes, Functions, Sigs, Values, Blocks, Params}
 use Rattle.ssa_lines.specs.declared.refusal.LimitKind.TheVariants.{Results, Args, Cases, Bound, Replies, MemBytes}
 use Rattle.ssa_lines.specs.declared.refusal.LimitKind.TheVariants.{JunkWords}
-use Rattle.ssa_lines.specs.declared.refusal.TextRefusal.{TextRefusal}
-use Rattle.ssa_lines.specs.declared.refusal.TextRefusal.TheVariants.{BadByte, BadLine, UnknownOp, NumberTooLarge}
-use Rattle.ssa_lines.specs.declared.refusal.TextRefusal.TheVariants.{Duplicate, UnknownRef, Limit, NoMemory}
+use Rattle.ssa_lines.specs.declared.refusal.TextFault.{TextFault}
+use Rattle.ssa_lines.specs.declared.refusal.TextFault.TheVariants.{BadByte, BadLine, UnknownOp, NumberTooLarge}
+use Rattle.ssa_lines.specs.declared.refusal.TextFault.TheVariants.{Duplicate, UnknownRef, Limit}
 
 -- what is wrong where a limit is passed
 abbrev pub limit_text : LimitKind → List ℕ
@@ -28,8 +28,8 @@ limit_text JunkWords = codes "limit JunkWords"
 abbrev pub fault_line : (line : ℕ) → (fault : List ℕ) → List ℕ
 fault_line line fault = codes "gossa: line " ++ (decimal line ++ (codes ": " ++ (fault ++ codes "\n")))
 
--- the line of each refusal
-abbrev pub refusal_line : TextRefusal → List ℕ
+-- the line of each fault of a text
+abbrev pub refusal_line : TextFault → List ℕ
 refusal_line (BadByte line) = fault_line line (codes "bad byte")
 refusal_line (BadLine line) = fault_line line (codes "bad line")
 refusal_line (UnknownOp line) = fault_line line (codes "unknown op")
@@ -37,4 +37,3 @@ refusal_line (NumberTooLarge line) = fault_line line (codes "number too large")
 refusal_line (Duplicate line) = fault_line line (codes "defined twice")
 refusal_line (UnknownRef line) = fault_line line (codes "unknown reference")
 refusal_line (Limit kind line) = fault_line line (limit_text kind)
-refusal_line NoMemory = codes "gossa: out of memory\n"

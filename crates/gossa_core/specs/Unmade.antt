@@ -3,22 +3,20 @@ use Rattle.std.specs.Prelude.{◌≡◌, ℕ, List, Ok, Err}
 use Rattle.std.specs.List.{All}
 use Rattle.ssa_ir.specs.declared.func.SsaUnit.{SsaUnit}
 use Rattle.ssa_text.specs.UnitReading.{read_unit}
-use Rattle.ssa_lines.specs.declared.refusal.TextRefusal.{TextRefusal}
-use Rattle.ssa_lines.specs.declared.refusal.TextRefusal.TheVariants.{NoMemory as Wanting}
+use Rattle.ssa_lines.specs.declared.refusal.TextFault.{TextFault}
 use Rattle.ssa_check.specs.declared.refusal.Fault.{Fault}
 use Rattle.ssa_check.specs.Failing.{Accepted, FirstFault}
 use Rattle.gossa_core.specs.declared.status.CheckFault.{CheckFault}
 use Rattle.gossa_core.specs.declared.status.Outcome.{Outcome}
-use Rattle.gossa_core.specs.declared.status.Outcome.TheVariants.{Done, NotBuilt, TooLong, Text, Check, Usage, ReadFault}
-use Rattle.gossa_core.specs.declared.status.Outcome.TheVariants.{WriteFault, NoMemory}
+use Rattle.gossa_core.specs.declared.status.Outcome.TheVariants.{NotBuilt, Text, Check}
+use Rattle.gossa_core.specs.declared.status.Outcome.TheVariants.{NoMemory}
 use Rattle.gossa_core.specs.declared.words.Command.{Command}
 use Rattle.gossa_core.specs.declared.words.Command.TheVariants.{Compile, Run}
 use Rattle.sum_compile.specs.Narrow.{Narrow}
 
--- the text spells no unit, and this is its first fault; want of memory is no fault of a text
-abbrev pub Misspells : List ℕ → TextRefusal → Type 0
-Misspells text Wanting = ⊥
-Misspells text refusal = read_unit text ≡ Err refusal
+-- the text spells no unit, and this is its first fault
+abbrev pub Misspells : List ℕ → TextFault → Type 0
+Misspells text fault = read_unit text ≡ Err fault
 
 -- the first fault of a unit, told by the name of its function
 pub record IsFirstFault (u : SsaUnit) (told : CheckFault) : Type 0 where
@@ -55,7 +53,7 @@ LeavesUnbuilt Run text = ⊥
 -- why a command makes no output of a text; want of memory alone is free
 abbrev pub Unmade : Command → List ℕ → Outcome → Type 0
 Unmade c text NotBuilt = LeavesUnbuilt c text
-Unmade c text (Text refusal) = Misspells text refusal
+Unmade c text (Text fault) = Misspells text fault
 Unmade c text (Check fault) = FailsCheck text fault
 Unmade c text NoMemory = Unit {0}
 Unmade c text _ = ⊥

@@ -9,10 +9,23 @@ pub record World : Type 0 where
   pub held : Option (List ℕ)
   pub write_faults : ℕ
 
+-- the same by what the source and the sink tell
+abbrev pub world : (left : Option (List ℕ)) → (read_faults : ℕ) → (held : Option (List ℕ)) → (write_faults : ℕ) → World
+world left read_faults held write_faults = record {
+  left = left;
+  read_faults = read_faults;
+  held = held;
+  write_faults = write_faults;
+}
+
 -- the error stream at one moment: the bytes that it holds, where it tells them, and how many faults it has met
 pub record Errors : Type 0 where
   pub told : Option (List ℕ)
   pub tell_faults : ℕ
+
+-- the same by what the stream tells
+abbrev pub errors : (told : Option (List ℕ)) → (tell_faults : ℕ) → Errors
+errors told tell_faults = record { told = told; tell_faults = tell_faults }
 
 -- the source met no fault
 abbrev pub NoReadFault : World → World → Type 0

@@ -3,7 +3,7 @@
 ghost use Rattle.std.specs.Prelude.{◌≡◌, ◌<◌, ◌++◌, map, length, IfOk, OnOk};
 ghost use Rattle.ssa_ir.specs.Lookups.{func_sigs, signatures};
 ghost use Rattle.gossa_core.specs.CaseText as spec;
-ghost use Rattle.gossa_core.specs.SigTables.{Finds};
+ghost use Rattle.gossa_core.specs.tables.SigTables.{Finds};
 
 use crate::shown::put_shown;
 use crate::sig_table::SigTable;

@@ -6,8 +6,8 @@ ghost use Rattle.std.specs.List.{flat_map};
 ghost use Rattle.gossa_base.specs.Words.{signed_at};
 ghost use Rattle.ssa_ir.specs.declared.case.End.TheVariants.{Returned};
 ghost use Rattle.gossa_core.specs.ShownText as spec;
-ghost use Rattle.gossa_core.specs.RunLengths as lengths;
-ghost use Rattle.gossa_core.specs.SigTables.{Finds};
+ghost use Rattle.gossa_core.specs.tables.RunLengths as lengths;
+ghost use Rattle.gossa_core.specs.tables.SigTables.{Finds};
 
 use crate::sig_table::SigTable;
 use gossa_base::{

@@ -6,7 +6,7 @@ ghost use Rattle.std.specs.Cmp.Lexicographic.{pointwise};
 ghost use Rattle.indexmap.specs.IndexMap.{get};
 ghost use Rattle.ssa_ir.specs.declared.types.Sig.{Sig as IrSig};
 ghost use Rattle.gossa_core.specs.ShownText.{sig_among};
-ghost use Rattle.gossa_core.specs.SigTables.{Finds, found_or};
+ghost use Rattle.gossa_core.specs.tables.SigTables.{Finds, found_or};
 
 use crate::names::same_name;
 use gossa_base::{Name, NoMemory};

@@ -7,7 +7,7 @@ ghost use Rattle.gossa_core.specs.Refused.{outcome_of_read, outcome_of_text, out
 
 use gossa_base::{Name, NoMemory, ReadRefusal};
 use ssa_check::{At, Check, Fault};
-use ssa_text::TextRefusal;
+use ssa_text::{TextFault, TextRefusal};
 
 /// How the program ends, by the number that its process ends with.
 #[derive(Clone, Copy, Debug, PartialEq, Eq)]
@@ -59,8 +59,8 @@ pub enum Outcome {
     NotBuilt,
     /// The input has more bytes than are read.
     TooLong,
-    /// The input is no text of a unit, and this is its first fault. (The program answers want of memory by `NoMemory`.)
-    Text(TextRefusal),
+    /// The input is no text of a unit, and this is its first fault.
+    Text(TextFault),
     /// The input is a unit that fails a check, and this is its first fault.
     Check(CheckFault),
     /// The words are no command.
@@ -80,9 +80,9 @@ impl Outcome {
     {
         match self {
             Outcome::Done => Status::Done,
-            Outcome::NotBuilt | Outcome::TooLong => Status::Refused,
-            Outcome::Text(TextRefusal::NoMemory) => Status::NoMemory,
-            Outcome::Text(_) | Outcome::Check(_) => Status::Refused,
+            Outcome::NotBuilt | Outcome::TooLong | Outcome::Text(_) | Outcome::Check(_) => {
+                Status::Refused
+            }
             Outcome::Usage => Status::Usage,
             Outcome::ReadFault => Status::ReadFault,
             Outcome::WriteFault => Status::WriteFault,
@@ -108,8 +108,8 @@ impl From<TextRefusal> for Outcome {
 
     fn from(refusal: TextRefusal) -> Outcome {
         match refusal {
+            TextRefusal::Fault(fault) => Outcome::Text(fault),
             TextRefusal::NoMemory => Outcome::NoMemory,
-            fault => Outcome::Text(fault),
         }
     }
 }

@@ -7,19 +7,19 @@ ghost use Rattle.gossa_base.specs.Whole.{AppendsPrefix};
 ghost use Rattle.gossa_core.specs.Answer.{line_of, Tells};
 ghost use Rattle.gossa_core.specs.CheckText.{numbered, check_text, place_text, check_line};
 ghost use Rattle.gossa_core.specs.RefusalText.{limit_text, fault_line, refusal_line};
+ghost use Rattle.gossa_core.specs.Worlds.{errors};
 
 use crate::status::{CheckFault, Outcome};
 use gossa_base::{BlockId, Failed, Sink, write_all};
 use itoa::Buffer;
 use ssa_check::{At, Check};
-use ssa_text::{LimitKind, TextRefusal};
+use ssa_text::{LimitKind, TextFault};
 
 /// The line of an outcome goes to the error stream, or a prefix of it where that stream fails. Nothing goes there where
 /// all went well.
 pub fn tell<E: Sink>(errs: &mut E, outcome: &Outcome)
     ensures { Tells (line_of outcome.now)
-        (record { told = E.held errs.old; tell_faults = E.faults errs.old })
-        (record { told = E.held errs.new; tell_faults = E.faults errs.new }) }
+        (errors (E.held errs.old) (E.faults errs.old)) (errors (E.held errs.new) (E.faults errs.new)) }
 {
     let _ = write_line(errs, outcome);
 }
@@ -34,7 +34,7 @@ fn write_line<E: Sink>(errs: &mut E, outcome: &Outcome) -> Result<(), Failed>
         Outcome::Done => write_all(errs, b""),
         Outcome::NotBuilt => write_all(errs, b"gossa: not built\n"),
         Outcome::TooLong => write_all(errs, b"gossa: input too long\n"),
-        Outcome::Text(refusal) => write_refusal(errs, *refusal),
+        Outcome::Text(fault) => write_refusal(errs, *fault),
         Outcome::Check(fault) => write_check(errs, fault),
         Outcome::Usage => write_all(
             errs,
@@ -47,20 +47,19 @@ fn write_line<E: Sink>(errs: &mut E, outcome: &Outcome) -> Result<(), Failed>
 }
 
 // Writes why a text is refused.
-fn write_refusal<E: Sink>(errs: &mut E, refusal: TextRefusal) -> Result<(), Failed>
-    ensures ok { OnOk result (Appends (E.held errs.old) (E.held errs.new) (refusal_line refusal)) }
+fn write_refusal<E: Sink>(errs: &mut E, fault: TextFault) -> Result<(), Failed>
+    ensures ok { OnOk result (Appends (E.held errs.old) (E.held errs.new) (refusal_line fault)) }
     ensures fault { OnErr result (Faulted (E.faults errs.old) (E.faults errs.new)) }
-    ensures prefix { OnErr result (AppendsPrefix (E.held errs.old) (E.held errs.new) (refusal_line refusal)) }
+    ensures prefix { OnErr result (AppendsPrefix (E.held errs.old) (E.held errs.new) (refusal_line fault)) }
 {
-    match refusal {
-        TextRefusal::BadByte(line) => write_fault(errs, line, b"bad byte"),
-        TextRefusal::BadLine(line) => write_fault(errs, line, b"bad line"),
-        TextRefusal::UnknownOp(line) => write_fault(errs, line, b"unknown op"),
-        TextRefusal::NumberTooLarge(line) => write_fault(errs, line, b"number too large"),
-        TextRefusal::Duplicate(line) => write_fault(errs, line, b"defined twice"),
-        TextRefusal::UnknownRef(line) => write_fault(errs, line, b"unknown reference"),
-        TextRefusal::Limit(kind, line) => write_fault(errs, line, limit_text(kind)),
-        TextRefusal::NoMemory => write_all(errs, b"gossa: out of memory\n"),
+    match fault {
+        TextFault::BadByte(line) => write_fault(errs, line, b"bad byte"),
+        TextFault::BadLine(line) => write_fault(errs, line, b"bad line"),
+        TextFault::UnknownOp(line) => write_fault(errs, line, b"unknown op"),
+        TextFault::NumberTooLarge(line) => write_fault(errs, line, b"number too large"),
+        TextFault::Duplicate(line) => write_fault(errs, line, b"defined twice"),
+        TextFault::UnknownRef(line) => write_fault(errs, line, b"unknown reference"),
+        TextFault::Limit(kind, line) => write_fault(errs, line, limit_text(kind)),
     }
 }
 

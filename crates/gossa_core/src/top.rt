@@ -16,6 +16,7 @@ ghost use Rattle.gossa_core.specs.Outputs.{Makes};
 ghost use Rattle.ssa_ir.specs.declared.limits.TheConstants.{MAX_INPUT_BYTES};
 ghost use Rattle.gossa_core.specs.Unmade.{Unchecked, Unmade};
 ghost use Rattle.gossa_core.specs.Words.{command_of, HasRegisters};
+ghost use Rattle.gossa_core.specs.Worlds.{world, errors};
 
 use crate::names::same_name;
 use crate::run::show_cases;
@@ -45,34 +46,13 @@ pub fn gossa<S: Source, K: Sink, E: Sink>(
     errs: &mut E,
 ) -> Status
     ensures answers { Answers (map string_bytes words.now)
-        (record {
-          left = S.left source.old;
-          read_faults = S.faults source.old;
-          held = K.held sink.old;
-          write_faults = K.faults sink.old;
-        })
-        (record {
-          left = S.left source.new;
-          read_faults = S.faults source.new;
-          held = K.held sink.new;
-          write_faults = K.faults sink.new;
-        })
-        (record { told = E.held errs.old; tell_faults = E.faults errs.old })
-        (record { told = E.held errs.new; tell_faults = E.faults errs.new })
+        (world (S.left source.old) (S.faults source.old) (K.held sink.old) (K.faults sink.old))
+        (world (S.left source.new) (S.faults source.new) (K.held sink.new) (K.faults sink.new))
+        (errors (E.held errs.old) (E.faults errs.old)) (errors (E.held errs.new) (E.faults errs.new))
         result }
     ensures complete { IsComplete (map string_bytes words.now)
-        (record {
-          left = S.left source.old;
-          read_faults = S.faults source.old;
-          held = K.held sink.old;
-          write_faults = K.faults sink.old;
-        })
-        (record {
-          left = S.left source.new;
-          read_faults = S.faults source.new;
-          held = K.held sink.new;
-          write_faults = K.faults sink.new;
-        })
+        (world (S.left source.old) (S.faults source.old) (K.held sink.old) (K.faults sink.old))
+        (world (S.left source.new) (S.faults source.new) (K.held sink.new) (K.faults sink.new))
         result }
 {
     let outcome = answer(alloc, words, source, sink);
@@ -88,18 +68,8 @@ fn answer<S: Source, K: Sink>(
     sink: &mut K,
 ) -> Outcome
     ensures { Cause (command_of (map string_bytes words.now))
-        (record {
-          left = S.left source.old;
-          read_faults = S.faults source.old;
-          held = K.held sink.old;
-          write_faults = K.faults sink.old;
-        })
-        (record {
-          left = S.left source.new;
-          read_faults = S.faults source.new;
-          held = K.held sink.new;
-          write_faults = K.faults sink.new;
-        })
+        (world (S.left source.old) (S.faults source.old) (K.held sink.old) (K.faults sink.old))
+        (world (S.left source.new) (S.faults source.new) (K.held sink.new) (K.faults sink.new))
         result }
 {
     match read_words(words) {
@@ -117,18 +87,8 @@ fn obey<S: Source, K: Sink>(
 ) -> Outcome
     requires { HasRegisters command }
     ensures { CommandCause command
-        (record {
-          left = S.left source.old;
-          read_faults = S.faults source.old;
-          held = K.held sink.old;
-          write_faults = K.faults sink.old;
-        })
-        (record {
-          left = S.left source.new;
-          read_faults = S.faults source.new;
-          held = K.held sink.new;
-          write_faults = K.faults sink.new;
-        })
+        (world (S.left source.old) (S.faults source.old) (K.held sink.old) (K.faults sink.old))
+        (world (S.left source.new) (S.faults source.new) (K.held sink.new) (K.faults sink.new))
         result }
 {
     let text = match read_all(alloc, source, MAX_INPUT_BYTES) {

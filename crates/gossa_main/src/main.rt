@@ -6,6 +6,7 @@ ghost use Rattle.std.specs.Prelude.{◌≡◌, map, IfOk};
 ghost use Rattle.std.specs.Process.{exit_status};
 ghost use Rattle.std.specs.String.{string_bytes};
 ghost use Rattle.gossa_core.specs.Status.{number_of};
+ghost use Rattle.gossa_core.specs.Worlds.{world, errors};
 ghost use Rattle.gossa_main.specs.Process.{words_given, Does, Ends};
 
 use gossa_base::{NoMemory, Sink, Source, StdSink, StdSource};
@@ -38,20 +39,9 @@ fn run<S: Source, K: Sink, E: Sink>(
     errs: &mut E,
 ) -> ExitCode
     ensures { Ends (map string_bytes (words_given given))
-        (record {
-          left = S.left source.old;
-          read_faults = S.faults source.old;
-          held = K.held sink.old;
-          write_faults = K.faults sink.old;
-        })
-        (record {
-          left = S.left source.new;
-          read_faults = S.faults source.new;
-          held = K.held sink.new;
-          write_faults = K.faults sink.new;
-        })
-        (record { told = E.held errs.old; tell_faults = E.faults errs.old })
-        (record { told = E.held errs.new; tell_faults = E.faults errs.new })
+        (world (S.left source.old) (S.faults source.old) (K.held sink.old) (K.faults sink.old))
+        (world (S.left source.new) (S.faults source.new) (K.held sink.new) (K.faults sink.new))
+        (errors (E.held errs.old) (E.faults errs.old)) (errors (E.held errs.new) (E.faults errs.new))
         (exit_status result) }
 {
     exit_code(obey(alloc, given, source, sink, errs))
@@ -66,20 +56,9 @@ fn obey<S: Source, K: Sink, E: Sink>(
     errs: &mut E,
 ) -> Status
     ensures { Does (map string_bytes (words_given given))
-        (record {
-          left = S.left source.old;
-          read_faults = S.faults source.old;
-          held = K.held sink.old;
-          write_faults = K.faults sink.old;
-        })
-        (record {
-          left = S.left source.new;
-          read_faults = S.faults source.new;
-          held = K.held sink.new;
-          write_faults = K.faults sink.new;
-        })
-        (record { told = E.held errs.old; tell_faults = E.faults errs.old })
-        (record { told = E.held errs.new; tell_faults = E.faults errs.new })
+        (world (S.left source.old) (S.faults source.old) (K.held sink.old) (K.faults sink.old))
+        (world (S.left source.new) (S.faults source.new) (K.held sink.new) (K.faults sink.new))
+        (errors (E.held errs.old) (E.faults errs.old)) (errors (E.held errs.new) (E.faults errs.new))
         result }
 {
     match command_words(alloc, given) {

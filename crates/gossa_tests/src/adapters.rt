@@ -1,5 +1,5 @@
-// The adapters over standard streams, over a reader and a writer that fail at their first call alone: a fault is answered,
-// and the call isn't made again, a long piece is no fault, and neither is the end.
+// The adapters over standard streams, over a reader and a writer that fail at their first call alone: a fault is
+// answered, and the call isn't made again, a long piece is no fault, and neither is the end.
 
 ghost use Rattle.std.specs.Prelude.{◌≡◌, IfOk};
 

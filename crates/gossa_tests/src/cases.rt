@@ -6,7 +6,7 @@ use crate::made::sig;
 use case_text::{CaseForm, print_case, print_cases, read_case_form, read_case_part, read_cases};
 use gossa_base::{Name, NoMemory, Sequence};
 use ssa_ir::Sigs;
-use ssa_lines::{LimitKind, Spelled, TextRefusal};
+use ssa_lines::{LimitKind, Spelled, TextFault, TextRefusal};
 use std::alloc::Global;
 use std::test::Fail;
 
@@ -103,13 +103,13 @@ fn reads_and_prints_cases(rt: HostRuntime) -> Result<(), Fail> {
 fn counts_lines_from_the_first(rt: HostRuntime) -> Result<(), Fail> {
     let sigs = two_sigs(rt.alloc())?;
     for (text, want) in [
-        ("case f 1\nargs\nargs", TextRefusal::Duplicate(9)),
-        ("case h 1000001", TextRefusal::Limit(LimitKind::Bound, 7)),
-        ("case f 1\ncase h 1\ncase i 1", TextRefusal::UnknownRef(8)),
+        ("case f 1\nargs\nargs", TextFault::Duplicate(9)),
+        ("case h 1000001", TextFault::Limit(LimitKind::Bound, 7)),
+        ("case f 1\ncase h 1\ncase i 1", TextFault::UnknownRef(8)),
     ] {
         assert!(rt; text.len() <= 1000);
         let refusal = read_cases(rt.alloc(), text.as_bytes(), 7, &sigs).err();
-        assert!(rt; refusal == Some(want), "for {text}");
+        assert!(rt; refusal == Some(TextRefusal::Fault(want)), "for {text}");
     }
     Ok(())
 }

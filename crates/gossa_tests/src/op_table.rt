@@ -2,7 +2,10 @@
 
 use crate::made::text_of;
 use gossa_base::NoMemory;
-use ssa_ir::{Arity, AuxRule, Op, Role, Width, WidthPair, op_row, role_of};
+use ssa_ir::{
+    Access, Arity, AuxRule, Gives, Op, Role, Scalar, Takes, Ty, Width, WidthPair, facts_of, op_row,
+    role_of,
+};
 use std::test::Fail;
 
 #[test]
@@ -62,9 +65,33 @@ fn ops_have_roles(rt: HostRuntime) {
         (Op::StaticLECall, Role::Calls, false),
         (Op::Phi, Role::Rests, false),
         (Op::Arm64ADD, Role::Computes, true),
-        (Op::Arm64SUB, Role::NotBuilt, true),
+        (Op::Arm64CMPconst, Role::Compares, true),
+        (Op::Arm64MOVDaddr, Role::TakesAddress, true),
+        (Op::Arm64MOVBload, Role::Loads, true),
+        (Op::Arm64CALLstatic, Role::Calls, true),
     ] {
         assert!(rt; role_of(op) == role);
         assert!(rt; op.is_machine() == machine);
     }
+}
+
+#[test]
+fn ops_have_facts(rt: HostRuntime) {
+    let select = facts_of(Op::Arm64CSEL);
+    assert!(rt; select.takes == Takes::WordsAndFlags(2) && select.gives == Gives::Word);
+    assert!(rt; select.takes.arity() == Arity::Exact(3));
+    assert!(rt; select.takes.operands() == 2 && select.takes.has_flags());
+    assert!(rt; facts_of(Op::Load).access == Access::OfType && facts_of(Op::Load).reads_memory());
+    assert!(rt; facts_of(Op::Arm64MOVHload).access == Access::Signed(Width::W16));
+    assert!(rt; facts_of(Op::Arm64MOVDstore).access == Access::Unsigned(Width::W64));
+    assert!(rt; facts_of(Op::Arm64MOVDstore).takes.has_memory());
+    assert!(rt; facts_of(Op::Store).gives.is_memory() && !facts_of(Op::Phi).gives.is_memory());
+}
+
+#[test]
+fn widths_have_bits_and_bytes(rt: HostRuntime) {
+    assert!(rt; Width::W32.bits() == 32 && Width::W32.bytes() == 4);
+    assert!(rt; WidthPair::W8W64.narrow() == Width::W8 && WidthPair::W8W64.wide() == Width::W64);
+    assert!(rt; Scalar::Bool.bits() == 8 && Scalar::Ptr.bytes() == 8);
+    assert!(rt; Ty::One(Scalar::U16).bytes() == 2 && Ty::Mem.bytes() == 0);
 }

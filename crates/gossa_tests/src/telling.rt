@@ -3,7 +3,6 @@
 
 use gossa_base::MemSink;
 use gossa_core::{Outcome, Status, tell};
-use ssa_text::TextRefusal;
 use std::test::Fail;
 
 #[test]
@@ -13,6 +12,5 @@ fn tells_that_memory_ended(rt: HostRuntime) -> Result<(), Fail> {
     tell(&mut errs, &outcome);
     assert!(rt; outcome.status() == Status::NoMemory && outcome.status().number() == 5);
     assert!(rt; errs.held() == b"gossa: out of memory\n".as_slice());
-    assert!(rt; Outcome::Text(TextRefusal::NoMemory).status() == Status::NoMemory);
     Ok(())
 }

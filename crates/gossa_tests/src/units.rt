@@ -3,7 +3,9 @@
 use crate::dumps::{CANONICAL, CANONICAL_CASES, CASES, MARKED};
 use crate::made::unit_of_text;
 use gossa_base::Bytes;
-use ssa_text::{LimitKind, TextRefusal, print_unit, print_unit_cases, read_unit, split_cases};
+use ssa_text::{
+    LimitKind, TextFault, TextRefusal, print_unit, print_unit_cases, read_unit, split_cases,
+};
 use std::alloc::Global;
 use std::test::Fail;
 
@@ -86,20 +88,20 @@ fn tells_the_first_fault(rt: HostRuntime) {
     for (text, want) in [
         (
             "func f()\nb1:\nPlain -> b2\ncase g 1\nargs x",
-            TextRefusal::BadLine(5),
+            TextFault::BadLine(5),
         ),
         (
             "func f()\nb1:\nPlain -> b2\ncase g 1",
-            TextRefusal::UnknownRef(3),
+            TextFault::UnknownRef(3),
         ),
         (
             "func f()\ncase f 1000001",
-            TextRefusal::Limit(LimitKind::Bound, 2),
+            TextFault::Limit(LimitKind::Bound, 2),
         ),
     ] {
         assert!(rt; text.len() <= 1000);
         let refusal = read_unit(rt.alloc(), text.as_bytes()).err();
-        assert!(rt; refusal == Some(want), "for {text}");
+        assert!(rt; refusal == Some(TextRefusal::Fault(want)), "for {text}");
     }
 }
 

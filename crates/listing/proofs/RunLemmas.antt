@@ -8,8 +8,8 @@ use Rattle.ssa_ir.specs.declared.case.Shown.{Shown}
 use Rattle.ssa_ir.specs.declared.op.Op.{Op}
 use Rattle.ssa_ir.specs.Inputs.{Inputs}
 use Rattle.ssa_ir.specs.declared.role.Role.{Role}
-use Rattle.ssa_ir.specs.declared.role.Role.TheVariants.{Computes, TakesParameter, TakesAddress, Loads, Stores}
-use Rattle.ssa_ir.specs.declared.role.Role.TheVariants.{ChecksNil, Calls, Rests, NotBuilt}
+use Rattle.ssa_ir.specs.declared.role.Role.TheVariants.{Computes, Compares, TakesParameter, TakesAddress, Loads}
+use Rattle.ssa_ir.specs.declared.role.Role.TheVariants.{Stores, ChecksNil, Calls, Rests}
 use Rattle.ssa_ir.specs.Roles.{role}
 use Rattle.ssa_ir.specs.Run.{Callees, is_set}
 use Rattle.ssa_ir.specs.Showing.{ends}
@@ -22,7 +22,8 @@ use Rattle.listing.specs.declared.code.Code.{Code}
 use Rattle.listing.specs.declared.code.Map.{Map}
 use Rattle.listing.specs.declared.code.Listing.{Listing}
 use Rattle.listing.specs.Frame.{frame_words}
-use Rattle.listing.specs.Machine.{Machine, Onward, word_at, with_place, with_computed, run_computing, label_from}
+use Rattle.listing.specs.Machine.{Machine, Onward, word_at, with_place, with_computed, with_flags, run_computing}
+use Rattle.listing.specs.Machine.{label_from}
 use Rattle.listing.specs.Machine.{at_place, jumps, run_line}
 use Rattle.listing.specs.ListingRun.{begun, line_at, follow, turns, run_listing}
 
@@ -42,6 +43,7 @@ jumps_stay code go more b m h = at_place_stays go more m (label_from 0 b code.li
 computing_stays : (r : Role) (op : Op) (aux : ℤ) (o : Operands) (go more : Machine → Shown) (m : Machine)
     → ((k : Machine) → Stays (go k) (more k)) → Stays (run_computing r op aux o go m) (run_computing r op aux o more m)
 computing_stays Computes op aux o go more m h = h (with_computed op aux o m)
+computing_stays Compares op aux o go more m h = h (with_flags op aux o m)
 computing_stays TakesParameter op aux o go more m h = h m
 computing_stays TakesAddress op aux o go more m h = λ _. refl
 computing_stays Loads op aux o go more m h = λ _. refl
@@ -49,7 +51,6 @@ computing_stays Stores op aux o go more m h = λ _. refl
 computing_stays ChecksNil op aux o go more m h = λ _. refl
 computing_stays Calls op aux o go more m h = λ _. refl
 computing_stays Rests op aux o go more m h = h m
-computing_stays NotBuilt op aux o go more m h = λ _. refl
 
 line_stays : (callees : Callees) (inputs : Inputs) (code : Code) (maps : Option (List Map))
     (turn later go more : Onward) (line : Line)

@@ -1,7 +1,9 @@
+-- Code, its frame and its text.
 pub mod CodeFacts
 pub mod Frame
-pub mod ListingRun
-pub mod Machine
-pub mod RunLaws
-pub mod SameShow
 pub mod Text
+-- The machine, runs, and what it is to show the same.
+pub mod Machine
+pub mod ListingRun
+pub mod SameShow
+pub mod RunLaws

@@ -14,8 +14,8 @@ use Rattle.ssa_ir.specs.Evaluation.{eval}
 use Rattle.ssa_ir.specs.Inputs.{Inputs, Answer, symbol_word}
 use Rattle.ssa_ir.specs.Edges.{same_block}
 use Rattle.ssa_ir.specs.declared.role.Role.{Role}
-use Rattle.ssa_ir.specs.declared.role.Role.TheVariants.{Computes, TakesParameter, TakesAddress, Loads, Stores}
-use Rattle.ssa_ir.specs.declared.role.Role.TheVariants.{ChecksNil, Calls, Rests, NotBuilt}
+use Rattle.ssa_ir.specs.declared.role.Role.TheVariants.{Computes, Compares, TakesParameter, TakesAddress, Loads}
+use Rattle.ssa_ir.specs.declared.role.Role.TheVariants.{Stores, ChecksNil, Calls, Rests}
 use Rattle.ssa_ir.specs.Roles.{role}
 use Rattle.ssa_ir.specs.Run.{Callees, put, is_set}
 use Rattle.ssa_ir.specs.Showing.{ends, words_at}
@@ -84,10 +84,15 @@ with_result m (Some r) w = with_place (Reg r) w m
 abbrev pub with_computed : Op → ℤ → Operands → Machine → Machine
 with_computed op aux o m = with_result m o.dst (eval op aux (register_word m o.a) (register_word m o.b) 0 m.flags)
 
--- a computing line whose op has this role, and then the rest of the run; an op that isn't built ends it stuck, and no
--- load or store of the machine is built. An address is a move, and a nil check and a call have lines of their own
+-- the machine with the flags that a comparison computes
+abbrev pub with_flags : Op → ℤ → Operands → Machine → Machine
+with_flags op aux o m = record m { flags = eval op aux (register_word m o.a) (register_word m o.b) 0 m.flags }
+
+-- a computing line whose op has this role, and then the rest of the run; no load or store of the machine is built yet.
+-- An address is a move, and a nil check and a call have lines of their own
 abbrev pub run_computing : Role → Op → ℤ → Operands → (go : Machine → Shown) → Machine → Shown
 run_computing Computes op aux o go m = go (with_computed op aux o m)
+run_computing Compares op aux o go m = go (with_flags op aux o m)
 run_computing TakesParameter op aux o go m = go m
 run_computing TakesAddress op aux o go m = ends Stuck
 run_computing Loads op aux o go m = ends Stuck
@@ -95,7 +100,6 @@ run_computing Stores op aux o go m = ends Stuck
 run_computing ChecksNil op aux o go m = ends Stuck
 run_computing Calls op aux o go m = ends Stuck
 run_computing Rests op aux o go m = go m
-run_computing NotBuilt op aux o go m = ends Stuck
 
 -- where an argument or result stands on the callee's side
 abbrev pub own_place : AbiPlace → Place

@@ -6,7 +6,7 @@ use Rattle.ssa_ir.specs.declared.func.SsaUnit.{SsaUnit}
 use Rattle.ssa_check.specs.declared.refusal.Check.TheVariants.{Callee}
 use Rattle.ssa_check.specs.CalleeCheck.{callee_holds}
 use Rattle.ssa_check.specs.Failing.{at_value, Meets, LeastPlace}
-use Rattle.ssa_check.specs.Lowest.{lowest_value}
+use Rattle.ssa_check.specs.tables.Lowest.{lowest_value}
 use Rattle.ssa_check.proofs.PlaceLemmas.{value_place}
 
 -- the value of the lowest number that fails the test is the least at which the check fails

@@ -19,9 +19,9 @@ use Rattle.ssa_check.specs.declared.callees.SelectKey.{SelectKey}
 use Rattle.ssa_check.specs.declared.callees.SelectTable.{SelectTable}
 use Rattle.ssa_check.specs.CalleeCheck.{has_lower_twin, has_memory_select}
 use Rattle.ssa_ir.specs.Classes.{is_memory}
-use Rattle.ssa_check.specs.Selects.{picks_by, picks_of, is_index_of, is_below, is_key, says_memory, says_lowest}
-use Rattle.ssa_check.specs.Selects.{TellsOf}
-use Rattle.ssa_check.specs.Lowest.{lower_where}
+use Rattle.ssa_check.specs.tables.Selects.{picks_by, picks_of, is_index_of, is_below, is_key, says_memory, says_lowest}
+use Rattle.ssa_check.specs.tables.Selects.{TellsOf}
+use Rattle.ssa_check.specs.tables.Lowest.{lower_where}
 use Rattle.ssa_check.specs.ValueChecks.{is_lower}
 
 -- ---- tests

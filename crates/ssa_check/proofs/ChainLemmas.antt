@@ -15,11 +15,11 @@ use Rattle.ssa_ir.specs.declared.func.Func.{Func}
 use Rattle.ssa_ir.specs.declared.func.Value.{Value}
 use Rattle.ssa_ir.specs.WellFormed.{Differ, WellFormedFunc}
 use Rattle.ssa_check.specs.declared.memories.Leaves.TheVariants.{Known}
-use Rattle.ssa_check.specs.ChainTables.{LeavesOf}
+use Rattle.ssa_check.specs.tables.ChainTables.{LeavesOf}
 use Rattle.ssa_ir.specs.MemoryChains.{AreLinked, Chained, IsChain, IsLast, inner_of, is_inner, last_definer, taken_by}
 use Rattle.ssa_ir.specs.MemoryChains.{takes, takes_inner}
 use Rattle.gossa_base.proofs.ListPlaces.{last_at, At, all_at, any_at, contains_at, same_at}
-use Rattle.ssa_check.proofs.ItemStands.{memories_same, same_memories}
+use Rattle.block_order.proofs.ItemStands.{memories_same, same_memories}
 
 -- ---- the numbers of a block's values differ
 

@@ -22,9 +22,9 @@ use Rattle.ssa_ir.specs.FirstOrder.{same_memory, same_value}
 use Rattle.ssa_ir.specs.WellFormed.{WellFormedFunc}
 use Rattle.ssa_check.specs.declared.chains.Link.{Link}
 use Rattle.ssa_check.specs.declared.memories.Leaves.TheVariants.{Unknown}
-use Rattle.ssa_check.specs.ChainLinks.{chain_end, end_where, ends_after, free_of, if_there, is_taken, leaves_by}
-use Rattle.ssa_check.specs.ChainLinks.{link_before, links_of, step_back, taken_pairs}
-use Rattle.ssa_check.specs.ChainTables.{LeavesOf}
+use Rattle.ssa_check.specs.tables.ChainLinks.{chain_end, end_where, ends_after, free_of, if_there, is_taken, leaves_by}
+use Rattle.ssa_check.specs.tables.ChainLinks.{link_before, links_of, step_back, taken_pairs}
+use Rattle.ssa_check.specs.tables.ChainTables.{LeavesOf}
 use Rattle.ssa_ir.specs.MemoryChains.{AreLinked, Chained, IsChain, begins_memory, has_definer, inner_of, is_definer}
 use Rattle.ssa_ir.specs.MemoryChains.{is_inner, is_memory_phi, last_definer, taken_by, takes, takes_inner}
 use Rattle.ssa_check.proofs.ChainLemmas.{Apart, Lists, free_last, inner_apart, last_free, linked_step, lists, no_repeat}

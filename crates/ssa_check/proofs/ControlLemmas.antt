@@ -16,7 +16,7 @@ use Rattle.ssa_ir.specs.FirstOrder.{same_value}
 use Rattle.ssa_ir.specs.WellFormed.{WellFormedFunc}
 use Rattle.ssa_check.specs.declared.controls.UseTable.{UseTable}
 use Rattle.ssa_check.specs.BlockChecks.{controls, is_used_elsewhere}
-use Rattle.ssa_check.specs.Uses.{is_noted, is_taken, is_control, several_pass, is_used_among, TellsOf}
+use Rattle.ssa_check.specs.tables.Uses.{is_noted, is_taken, is_control, several_pass, is_used_among, TellsOf}
 use Rattle.ssa_check.proofs.EdgeCountLemmas.{Apart, AllApart, all_apart, apart_at}
 
 -- ---- one more block

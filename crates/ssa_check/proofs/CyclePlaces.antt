@@ -1,10 +1,10 @@
 -- From the least number on a cycle to the least place that fails the check Cycle; and what earlier checks give to
 -- blocks.
-use Rattle.std.proofs.Common.{◌≡◌, ◌≢◌, ℕ, zero, suc, ◌+◌, ◌==◌, nat_lt, ◌<◌, ◌≤◌, ◌⊎◌, inl, inr, Bool, true, false}
+use Rattle.std.proofs.Common.{◌≡◌, ◌≢◌, ℕ, zero, suc, ◌+◌, nat_lt, ◌≤◌, ◌⊎◌, inl, inr, Bool, true, false}
 use Rattle.std.proofs.Common.{if◌then◌else◌, List, [], ◌∷◌, ◌++◌, length, get_or, map, Option, None, Some, MatchOption}
 use Rattle.std.proofs.Common.{refl, subst, sym, ap, ◌∙◌, arith}
 use Rattle.std.specs.List.{All, AllPairs, Any, flat_map}
-use Rattle.std.proofs.lemmas.Bool.{eq-eqb, eqb-true, ltb-false, ltb-true, ne_eqb, true_from_ne_false}
+use Rattle.std.proofs.lemmas.Bool.{eqb-true, ltb-false, ltb-true, true_from_ne_false}
 use Rattle.std.proofs.lemmas.List.{get_or-append-add, get_or_append_left, length-append, length-map}
 use Rattle.std.proofs.lemmas.List.Quantifiers.{Any-push}
 use Rattle.std.proofs.lemmas.Option.{get_or_from_slice_get, slice_get-get_or, slice_get_within}
@@ -15,7 +15,6 @@ use Rattle.ssa_ir.specs.declared.func.Block.{Block}
 use Rattle.ssa_ir.specs.declared.func.Func.{Func}
 use Rattle.ssa_ir.specs.declared.func.SsaUnit.{SsaUnit}
 use Rattle.ssa_ir.specs.declared.func.Value.{Value}
-use Rattle.ssa_ir.specs.FirstOrder.{same_value}
 use Rattle.ssa_ir.specs.OpKinds.{is_follower}
 use Rattle.ssa_ir.specs.Lookups.{values_of}
 use Rattle.ssa_ir.specs.Ops.{row_of}
@@ -23,13 +22,11 @@ use Rattle.ssa_ir.specs.WellFormed.{WellFormedFunc}
 use Rattle.ssa_check.specs.declared.refusal.At.{At as Where}
 use Rattle.ssa_check.specs.declared.refusal.At.TheVariants.{Func as AtFunc, Value as AtValue, Block as AtBlock}
 use Rattle.ssa_check.specs.declared.refusal.Check.TheVariants.{Arity, Cycle}
-use Rattle.ssa_tables.specs.declared.values.Place.{Place}
 use Rattle.ssa_check.specs.Failing.{FailsAt, IsBefore, LeastPlace, Meets, at_value}
-use Rattle.ssa_check.specs.Items.{HasItems, Indexes, IsLeast, IsOnCycle, index_in, index_of, lower_of}
-use Rattle.gossa_base.specs.Lists.{first_from}
-use Rattle.ssa_tables.specs.Places.{place_in, places_from, places_in, places_of}
+use Rattle.block_order.specs.LowestOnCycle.{HasItems, IsLeast, IsOnCycle}
+use Rattle.ssa_check.specs.tables.Lowest.{lower_of}
 use Rattle.ssa_check.specs.ValueChecks.{arity_holds, is_number_of}
-use Rattle.gossa_base.proofs.ListPlaces.{At, any_from_at, first_at}
+use Rattle.gossa_base.proofs.ListPlaces.{At, any_from_at}
 use Rattle.graphs.proofs.AnyLemmas.{any_none, any_front, any_push_cases}
 
 -- ---- the least place
@@ -134,40 +131,7 @@ has_items u f well meets k b at = record {
   selects_one = selects_one u f meets k b at;
 }
 
--- ---- the table has the values of each block
-
--- the place that a list of values gives, and else another one
-abbrev or_else : (n : ℕ) → Option ℕ → Option Place → Option Place
-or_else n None other = other
-or_else n (Some i) other = Some (record { block = n; index = i })
-
-place_first : (n k : ℕ) (values : List Value) (more : List (ℕ × Place)) (id : ValueId)
-    → place_in (places_in n k values ++ more) id
-    ≡ or_else n (first_from (λ v. same_value v.id id) k values) (place_in more id)
-place_first n k [] more id = refl
-place_first n k (v ∷ values) more id = by_test (v.id.0 == id.0) (place_first n (suc k) values more id)
-  where
-    by_test : (b : Bool)
-        → place_in (places_in n (suc k) values ++ more) id
-        ≡ or_else n (first_from (λ w. same_value w.id id) (suc k) values) (place_in more id)
-        → (if b then Some (record { block = n; index = k }) else place_in (places_in n (suc k) values ++ more) id)
-        ≡ or_else n (if b then Some k else first_from (λ w. same_value w.id id) (suc k) values) (place_in more id)
-    by_test true rest = refl
-    by_test false rest = rest
-
--- no place is one of a block before these
-later_block : (b n : ℕ) (blocks : List Block) (id : ValueId) → b < n
-    → index_in b (place_in (places_from n blocks) id) ≡ None
-later_block b n [] id before = refl
-later_block b n (c ∷ blocks) id before =
-    ap (index_in b) (place_first n 0 c.values (places_from (suc n) blocks) id)
-    ∙ by_index (first_from (λ v. same_value v.id id) 0 c.values)
-    (later_block b (suc n) blocks id (omega (arith, before)))
-  where
-    by_index : (o : Option ℕ) → index_in b (place_in (places_from (suc n) blocks) id) ≡ None
-        → index_in b (or_else n o (place_in (places_from (suc n) blocks) id)) ≡ None
-    by_index None rest = rest
-    by_index (Some i) rest = ap (λ t. if t then Some i else None) (ne_eqb n b (λ same. omega (arith, before, same)))
+-- ---- a number stands in one block
 
 at_front : {X : Type 0} (xs ys : List X) (i : ℕ) (x : X) → At xs i x → At (xs ++ ys) i x
 at_front [] ys i x at = cc
@@ -188,68 +152,27 @@ at_all (c ∷ blocks) (suc k) b i v at at_v =
     let there : (j : ℕ) × At (all_values blocks) j v = at_all blocks k b i v at at_v in
     at_back c.values (all_values blocks) there.0 v there.1
 
-abbrev Stands : List Value → ValueId → Type 0
-Stands values id = (i : ℕ) × (v : Value) × At values i v × (v.id.0 ≡ id.0)
+one_in : (blocks : List Block) → Apart (all_values blocks) → (j k : ℕ) (b c : Block) → At blocks j b → At blocks k c
+    → (i l : ℕ) (v w : Value) → At b.values i v → At c.values l w → v.id.0 ≡ w.id.0 → b ≡ c
+one_in [] apart j k b c at_b at_c i l v w at_v at_w same = cc
+one_in (d ∷ blocks) apart zero zero b c at_b at_c i l v w at_v at_w same =
+    let one : d ≡ b = cc in let other : d ≡ c = cc in sym one ∙ other
+one_in (d ∷ blocks) apart zero (suc k) b c at_b at_c i l v w at_v at_w same =
+    let one : b ≡ d = cc in
+    let behind : (m : ℕ) × At (all_values blocks) m w = at_all blocks k c l w at_c at_w in
+    absurd (apart_both d.values (all_values blocks) apart i behind.0 v w
+    (subst (λ (z : Block). At z.values i v) one at_v) behind.1 same)
+one_in (d ∷ blocks) apart (suc j) zero b c at_b at_c i l v w at_v at_w same =
+    let one : c ≡ d = cc in
+    let behind : (m : ℕ) × At (all_values blocks) m v = at_all blocks j b i v at_b at_v in
+    absurd (apart_both d.values (all_values blocks) apart l behind.0 w v
+    (subst (λ (z : Block). At z.values l w) one at_w) behind.1 (sym same))
+one_in (d ∷ blocks) apart (suc j) (suc k) b c at_b at_c i l v w at_v at_w same =
+    one_in blocks (apart_right d.values (all_values blocks) apart) j k b c at_b at_c i l v w at_v at_w same
 
-index_at : (values : List Value) (id : ValueId) (i : ℕ) → index_of values id ≡ Some i → Stands values id
-index_at values id i h =
-    let found : (j : ℕ) × (v : Value) × (i ≡ 0 + j) × At values j v × (same_value v.id id ≡ true) =
-    first_at (λ v. same_value v.id id) 0 values i h in
-    (found.0, found.1, found.3, eqb-true found.1.id.0 id.0 found.4)
-
--- a number of one block stands in no later one
-not_later : (c : Block) (blocks : List Block) → Apart (c.values ++ all_values blocks) → (k : ℕ) (b : Block)
-    → At blocks k b → (id : ValueId) (i : ℕ)
-    → index_of c.values id ≡ Some i → None ≡ index_of b.values id
-not_later c blocks apart k b at id i h = by_index (index_of b.values id) refl
-  where
-    clash : (j : ℕ) → index_of b.values id ≡ Some j → ⊥
-    clash j e =
-        let here : Stands c.values id = index_at c.values id i h in
-        let there : Stands b.values id = index_at b.values id j e in
-        let among : (j : ℕ) × At (all_values blocks) j there.1 = at_all blocks k b there.0 there.1 at there.2 in
-        apart_both c.values (all_values blocks) apart here.0 among.0 here.1 there.1 here.2 among.1
-        (here.3 ∙ sym there.3)
-
-    by_index : (o : Option ℕ) → index_of b.values id ≡ o → None ≡ index_of b.values id
-    by_index None e = sym e
-    by_index (Some j) e = absurd (clash j e)
-
-indexes_from : (n : ℕ) (blocks : List Block) → Apart (all_values blocks) → (k : ℕ) (b : Block) → At blocks k b
-    → (id : ValueId)
-    → index_in (n + k) (place_in (places_from n blocks) id) ≡ index_of b.values id
-indexes_from n [] apart k b at id = cc
-indexes_from n (c ∷ blocks) apart zero b at id =
-    let one : c ≡ b = cc in let same : n + zero ≡ n = omega arith in
-    ap (λ j. index_in j (place_in (places_from n (c ∷ blocks)) id)) same
-    ∙ ap (index_in n) (place_first n 0 c.values (places_from (suc n) blocks) id)
-    ∙ by_index (index_of c.values id) (later_block n (suc n) blocks id (omega arith))
-    ∙ ap (λ (z : Block). index_of z.values id) one
-  where
-    by_index : (o : Option ℕ) → index_in n (place_in (places_from (suc n) blocks) id) ≡ None
-        → index_in n (or_else n o (place_in (places_from (suc n) blocks) id)) ≡ o
-    by_index None rest = rest
-    by_index (Some i) rest = ap (λ t. if t then Some i else None) (eq-eqb n n refl)
-indexes_from n (c ∷ blocks) apart (suc k) b at id =
-    let same : n + suc k ≡ suc n + k = omega arith in
-    ap (λ j. index_in j (place_in (places_from n (c ∷ blocks)) id)) same
-    ∙ ap (index_in (suc n + k)) (place_first n 0 c.values (places_from (suc n) blocks) id)
-    ∙ by_index (index_of c.values id) refl
-    (indexes_from (suc n) blocks (apart_right c.values (all_values blocks) apart) k b at id)
-  where
-    by_index : (o : Option ℕ) → index_of c.values id ≡ o
-        → index_in (suc n + k) (place_in (places_from (suc n) blocks) id) ≡ index_of b.values id
-        → index_in (suc n + k) (or_else n o (place_in (places_from (suc n) blocks) id)) ≡ index_of b.values id
-    by_index None is rest = rest
-    by_index (Some i) is rest =
-        ap (λ t. if t then Some i else None) (ne_eqb n (suc n + k) (λ e. omega (arith, e)))
-        ∙ not_later c blocks apart k b at id i is
-
-pub indexes : (f : Func) → WellFormedFunc f → (k : ℕ) (b : Block) → At f.blocks k b → Indexes (places_of f) k b.values
-indexes f well k b at id =
-    let same : 0 + k ≡ k = omega arith in
-    subst (λ j. index_in j (place_in (places_of f) id) ≡ index_of b.values id) same
-    (indexes_from 0 f.blocks (apart_from (values_of f) well.values_differ) k b at id)
+pub one_standing : (f : Func) → WellFormedFunc f → (j k : ℕ) (b c : Block) → At f.blocks j b → At f.blocks k c
+    → (i l : ℕ) (v w : Value) → At b.values i v → At c.values l w → v.id.0 ≡ w.id.0 → b ≡ c
+one_standing f well = one_in f.blocks (apart_from (values_of f) well.values_differ)
 
 -- ---- the least over blocks
 

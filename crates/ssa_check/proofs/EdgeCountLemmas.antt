@@ -12,7 +12,7 @@ use Rattle.ssa_ir.specs.Edges.{same_block}
 use Rattle.ssa_ir.specs.WellFormed.{BlockIsThere, Differ, WellFormedFunc}
 use Rattle.ssa_check.specs.declared.edges.Edge.{Edge}
 use Rattle.ssa_check.specs.BlockChecks.{times}
-use Rattle.ssa_check.specs.EdgeTables.{same_edge, outgoing, incoming, all_outgoing, all_incoming}
+use Rattle.ssa_check.specs.tables.EdgeTables.{same_edge, outgoing, incoming, all_outgoing, all_incoming}
 use Rattle.ssa_check.proofs.EdgeOrderLemmas.{count}
 use Rattle.graphs.proofs.AnyLemmas.{any_here, any_later}
 

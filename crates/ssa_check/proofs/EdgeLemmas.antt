@@ -10,8 +10,8 @@ use Rattle.ssa_ir.specs.declared.func.Func.{Func}
 use Rattle.ssa_ir.specs.WellFormed.{BlockIsThere, WellFormedFunc}
 use Rattle.ssa_check.specs.declared.edges.Edge.{Edge}
 use Rattle.ssa_check.specs.BlockChecks.{agree, edges_hold, times}
-use Rattle.ssa_check.specs.EdgeTables.{edge_cmp, all_outgoing, all_incoming, first_difference}
-use Rattle.ssa_check.specs.Lowest.{lowest_block}
+use Rattle.ssa_check.specs.tables.EdgeTables.{edge_cmp, all_outgoing, all_incoming, first_difference}
+use Rattle.ssa_check.specs.tables.Lowest.{lowest_block}
 use Rattle.ssa_check.proofs.EdgeCountLemmas.{Apart, some_or_none, unsplit_of, times_by_number, none_named, outgoing_of}
 use Rattle.ssa_check.proofs.EdgeCountLemmas.{incoming_of, no_outgoing, no_incoming}
 use Rattle.ssa_check.proofs.EdgeOrderLemmas.{count, count_moved, ascends, Differs, lowest_difference}

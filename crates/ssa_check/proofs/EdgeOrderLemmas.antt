@@ -11,7 +11,7 @@ use Rattle.std.proofs.lemmas.List.Sorted.{sum_by-IsPermutation}
 use Rattle.std.proofs.lemmas.List.Sums.{length-filter}
 use Rattle.std.proofs.lemmas.Map.Keys.{ge_from_not_lt}
 use Rattle.ssa_check.specs.declared.edges.Edge.{Edge}
-use Rattle.ssa_check.specs.EdgeTables.{same_edge, edge_cmp, lower_target, common_len, first_difference}
+use Rattle.ssa_check.specs.tables.EdgeTables.{same_edge, edge_cmp, lower_target, common_len, first_difference}
 use Rattle.ssa_check.proofs.LowestLemmas.{IsLowest, same_lowest}
 
 none_alike : (edges : List Edge) → common_len edges [] ≡ 0

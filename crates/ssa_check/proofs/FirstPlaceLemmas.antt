@@ -16,7 +16,7 @@ use Rattle.ssa_check.specs.declared.refusal.At.TheVariants.{Func as AtFunc, Valu
 use Rattle.ssa_check.specs.declared.refusal.Check.{Check}
 use Rattle.ssa_check.specs.Failing.{FuncFails, ValueFails, BlockFails, FailsAt, at_value, at_block, IsBefore, Meets}
 use Rattle.ssa_check.specs.Failing.{LeastPlace}
-use Rattle.ssa_check.specs.Lowest.{lowest_value, lowest_block}
+use Rattle.ssa_check.specs.tables.Lowest.{lowest_value, lowest_block}
 use Rattle.ssa_check.proofs.LowestLemmas.{IsLowest}
 use Rattle.ssa_check.proofs.PlaceLemmas.{BlockCounts, ValueCounts, blocks_lowest, values_lowest}
 

@@ -1,18 +1,16 @@
 -- Paths of blocks and paths of their indexes are the same, where edges agree.
-use Rattle.std.proofs.Common.{◌≡◌, ◌≢◌, ℕ, zero, suc, ◌+◌, ◌<◌, ◌⊎◌, inl, inr, Bool, true, false, cond, not, ◌==◌, ◌||◌}
-use Rattle.std.proofs.Common.{eqb, ltb, List, [], ◌∷◌, ◌++◌, length, map, get_or, filter, find, is_some, Option, None}
+use Rattle.std.proofs.Common.{◌≡◌, ℕ, suc, ◌+◌, ◌<◌, ◌⊎◌, inl, inr, Bool, true, false, cond, not, ◌==◌, ◌||◌}
+use Rattle.std.proofs.Common.{eqb, ltb, List, [], ◌∷◌, ◌++◌, length, map, filter, Option, None}
 use Rattle.std.proofs.Common.{Some, slice_get, All, Any, refl, sym, ap, subst, ◌∙◌, true≢false, arith}
-use Rattle.std.specs.Bool.{beq}
 use Rattle.std.specs.List.{Contains, list_any}
 use Rattle.std.proofs.Math.Dec.{eqb-suc-zero}
-use Rattle.std.proofs.lemmas.Bool.{and_from, and_left, and_parts, eq-eqb, eqb-true, lt-ltb, ltb-false, ltb-true, ne_eqb}
+use Rattle.std.proofs.lemmas.Bool.{eq-eqb, eqb-true, lt-ltb, ltb-false, ltb-true, ne_eqb}
 use Rattle.std.proofs.lemmas.Bool.{not_from_false}
 use Rattle.std.proofs.lemmas.Bool.Decides.{nat_tests}
-use Rattle.std.proofs.lemmas.List.{get_or-map, get_or_past, length-map}
+use Rattle.std.proofs.lemmas.List.{get_or_past, length-map}
 use Rattle.std.proofs.lemmas.List.Elements.{All-cons, All-tail}
-use Rattle.std.proofs.lemmas.List.Folds.{Any-from_list_any}
 use Rattle.std.proofs.lemmas.List.Sums.{AllPass-from_list_all}
-use Rattle.std.proofs.lemmas.Option.{same_Some, get_or_from_slice_get, slice_get-get_or, slice_get_within}
+use Rattle.std.proofs.lemmas.Option.{same_Some, get_or_from_slice_get}
 use Rattle.gossa_base.specs.declared.ids.BlockId.{BlockId}
 use Rattle.gossa_base.specs.declared.ids.ValueId.{ValueId}
 use Rattle.ssa_ir.specs.declared.func.Block.{Block}
@@ -22,7 +20,7 @@ use Rattle.ssa_ir.specs.declared.func.Value.{Value}
 use Rattle.ssa_ir.specs.Edges.{same_block, is_first_of}
 use Rattle.ssa_ir.specs.FirstOrder.{has_value}
 use Rattle.ssa_ir.specs.Lookups.{value_of}
-use Rattle.ssa_ir.specs.WellFormed.{BlockIsThere, Differ, WellFormedFunc}
+use Rattle.ssa_ir.specs.WellFormed.{BlockIsThere, WellFormedFunc}
 use Rattle.ssa_check.specs.declared.refusal.At.TheVariants.{Block as AtBlock}
 use Rattle.ssa_check.specs.declared.refusal.Check.TheVariants.{Edges}
 use Rattle.ssa_tables.specs.declared.values.Place.{Place}
@@ -30,11 +28,11 @@ use Rattle.ssa_check.specs.BlockChecks.{agree, edges_hold, times}
 use Rattle.ssa_ir.specs.Definedness.{is_passed}
 use Rattle.ssa_check.specs.Failing.{Meets}
 use Rattle.ssa_tables.specs.Blocks.{IsIndexPath, index_in, preds_at, preds_of}
-use Rattle.ssa_check.specs.PassedRows.{has_index}
+use Rattle.ssa_tables.specs.PassedRows.{has_index}
 use Rattle.ssa_ir.specs.Paths.{IsPath, goes_to}
 use Rattle.ssa_tables.specs.Places.{places_in, places_from, places_of, place_in}
 use Rattle.ssa_tables.proofs.BlockLemmas.{block_at, block_index, block_there, index_within, name_there, preds_of_block}
-use Rattle.ssa_tables.proofs.BlockLemmas.{same_index, same_itself, same_name, stands_at}
+use Rattle.ssa_tables.proofs.BlockLemmas.{same_index, same_itself, same_name}
 use Rattle.ssa_check.proofs.CalleeBlockLemmas.{placed}
 use Rattle.ssa_tables.proofs.ValueTableLemmas.{at_place, leads_to}
 

@@ -4,7 +4,7 @@ use Rattle.std.proofs.Common.{Option, None, Some, refl, arith}
 use Rattle.std.specs.List.{Any, fold}
 use Rattle.std.proofs.lemmas.Bool.{ltb-true, ltb-false}
 use Rattle.graphs.proofs.AnyLemmas.{any_cases, any_here, any_later, any_none}
-use Rattle.ssa_check.specs.Lowest.{lower_where}
+use Rattle.ssa_check.specs.tables.Lowest.{lower_where}
 
 -- the lowest of the numbers that are so, if there is one
 abbrev pub IsLowest : Option ℕ → (ℕ → Type 0) → Type 0

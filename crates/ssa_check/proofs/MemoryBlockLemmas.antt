@@ -18,13 +18,13 @@ use Rattle.ssa_check.specs.declared.memories.Leaves.TheVariants.{Through, Known,
 use Rattle.ssa_check.specs.declared.memories.Passed.{Passed}
 use Rattle.ssa_check.specs.declared.memories.Passed.TheVariants.{NoPath, Always, Varies}
 use Rattle.ssa_check.specs.declared.memory.BlockMemory.{BlockMemory}
-use Rattle.ssa_check.specs.ChainTables.{LeavesOf}
+use Rattle.ssa_check.specs.tables.ChainTables.{LeavesOf}
 use Rattle.ssa_ir.specs.MemoryChains.{Chained, begins_memory, has_definer, is_definer, is_inner, is_memory_phi}
 use Rattle.ssa_ir.specs.MemoryPaths.{AllPass, Asked, ComesIn, ExitFails, IsIncoming, IsIncomingBy, IsInit, IsOutgoing}
 use Rattle.ssa_ir.specs.MemoryPaths.{MemoryBlockFails, TakesOther, is_exit, uses_memory}
-use Rattle.ssa_check.specs.MemoryTables.{IsMemoryOf, SaysPaths, asked_of, block_fails, comes_by, ends_otherwise}
-use Rattle.ssa_check.specs.MemoryTables.{incoming_of, is_chained, is_loose, is_reached, is_start, lacks_memory}
-use Rattle.ssa_check.specs.MemoryTables.{outgoing_of}
+use Rattle.ssa_check.specs.tables.MemoryTables.{IsMemoryOf, SaysPaths, asked_of, block_fails, comes_by, ends_otherwise}
+use Rattle.ssa_check.specs.tables.MemoryTables.{incoming_of, is_chained, is_loose, is_reached, is_start, lacks_memory}
+use Rattle.ssa_check.specs.tables.MemoryTables.{outgoing_of}
 use Rattle.ssa_ir.specs.Paths.{Reached}
 use Rattle.ssa_ir.specs.Edges.{is_entry}
 use Rattle.ssa_ir.specs.OpKinds.{is_init}

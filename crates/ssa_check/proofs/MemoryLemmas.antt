@@ -28,12 +28,12 @@ use Rattle.ssa_tables.specs.Blocks.{index_in, preds_at, preds_of}
 use Rattle.ssa_ir.specs.MemoryChains.{is_inner, is_memory_phi, takes, takes_inner}
 use Rattle.ssa_ir.specs.MemoryPaths.{Asked, FirstFails, MemoryBlockFails, MemoryPhiFails, MemoryValueFails, ReaderFails}
 use Rattle.ssa_ir.specs.MemoryPaths.{ResultFails, TakesOther}
-use Rattle.ssa_check.specs.MemoryTables.{AreLeaves, AreMemories, IsMemoryOf, asked_of, block_fails, either_place}
-use Rattle.ssa_check.specs.MemoryTables.{ends_otherwise, is_other, memory_in, no_memory, phi_fails, result_fails}
-use Rattle.ssa_check.specs.MemoryTables.{some_other, taker_fails, takes_other, value_fails}
-use Rattle.ssa_check.specs.PassedMemories.{ArePassedMemories}
+use Rattle.ssa_check.specs.tables.MemoryTables.{AreLeaves, AreMemories, IsMemoryOf, asked_of, block_fails, either_place}
+use Rattle.ssa_check.specs.tables.MemoryTables.{ends_otherwise, is_other, memory_in, no_memory, phi_fails, result_fails}
+use Rattle.ssa_check.specs.tables.MemoryTables.{some_other, taker_fails, takes_other, value_fails}
+use Rattle.ssa_check.specs.tables.PassedMemories.{ArePassedMemories}
 use Rattle.ssa_ir.specs.Paths.{IsPath}
-use Rattle.ssa_check.specs.Lowest.{lowest_block, lowest_value}
+use Rattle.ssa_check.specs.tables.Lowest.{lowest_block, lowest_value}
 use Rattle.ssa_check.proofs.FirstPlaceLemmas.{then_block, value_first}
 use Rattle.ssa_tables.proofs.BlockLemmas.{index_within, name_there, preds_of_block, stands_at}
 use Rattle.ssa_check.proofs.MemoryBlockLemmas.{asked_from, asked_to, block_from, block_to, ends_from, ends_to}
@@ -288,11 +288,13 @@ module _ (u : SsaUnit) (f : Func) (well : WellFormedFunc f) (edges : (w : SsaUni
         value_to f well edges leaves are passed says b of_func v (memory_in f memories b)
         (memory_of f well memories each b of_func)
 
-    found_block : (b : Block) → Contains f.blocks b → block_fails b (memory_in f memories b) ≡ true → MemoryBlockFails f b
+    found_block : (b : Block) → Contains f.blocks b → block_fails b (memory_in f memories b) ≡ true
+        → MemoryBlockFails f b
     found_block b of_func =
         block_from f well b of_func (memory_in f memories b) (memory_of f well memories each b of_func)
 
-    named_block : (b : Block) → Contains f.blocks b → MemoryBlockFails f b → block_fails b (memory_in f memories b) ≡ true
+    named_block : (b : Block) → Contains f.blocks b → MemoryBlockFails f b
+        → block_fails b (memory_in f memories b) ≡ true
     named_block b of_func =
         block_to f well b of_func (memory_in f memories b) (memory_of f well memories each b of_func)
 

@@ -15,13 +15,14 @@ use Rattle.ssa_check.specs.declared.memories.Leaves.TheVariants.{Through, Known,
 use Rattle.ssa_check.specs.declared.memories.Passed.{Passed}
 use Rattle.ssa_check.specs.declared.memories.Passed.TheVariants.{NoPath, Always, Varies}
 use Rattle.ssa_check.specs.declared.refusal.Check.TheVariants.{Edges}
-use Rattle.ssa_check.specs.ChainTables.{LeavesOf}
+use Rattle.ssa_check.specs.tables.ChainTables.{LeavesOf}
 use Rattle.ssa_check.specs.Failing.{Meets}
 use Rattle.ssa_tables.specs.Blocks.{IsIndexPath, index_in, preds_at, preds_of}
 use Rattle.ssa_ir.specs.MemoryChains.{IsLast, has_definer}
 use Rattle.ssa_ir.specs.MemoryPaths.{Passes}
-use Rattle.ssa_check.specs.MemoryTables.{AreLeaves, SaysPaths, is_other}
-use Rattle.ssa_check.specs.PassedMemories.{CameOther, IsReached, PassesOther, SaysBefore, SaysOf, left_by, memory_on}
+use Rattle.ssa_check.specs.tables.MemoryTables.{AreLeaves, SaysPaths, is_other}
+use Rattle.ssa_check.specs.tables.PassedMemories.{CameOther, IsReached, PassesOther, SaysBefore, SaysOf, left_by}
+use Rattle.ssa_check.specs.tables.PassedMemories.{memory_on}
 use Rattle.ssa_ir.specs.Paths.{IsPath, Reached}
 use Rattle.ssa_check.proofs.ChainLemmas.{one_last}
 use Rattle.ssa_check.proofs.FlowPaths.{block_path, index_path, indexes}

@@ -12,9 +12,9 @@ use Rattle.std.proofs.lemmas.Option.{none-some}
 use Rattle.gossa_base.specs.declared.ids.ValueId.{ValueId}
 use Rattle.ssa_ir.specs.FirstOrder.{same_value}
 use Rattle.ssa_tables.specs.Blocks.{IsIndexPath, preds_at}
-use Rattle.ssa_check.specs.MemorySweeps.{AreShown, Brings, BringsOther, IsSettled, Shows, Sweeps, Updates, after}
-use Rattle.ssa_check.specs.MemorySweeps.{all_left, before_of, changes_left, met, next_of, passed_at}
-use Rattle.ssa_check.specs.PassedMemories.{ArePassedMemories, IsReached, SaysBefore, SaysOf, left_by, memory_on}
+use Rattle.ssa_check.specs.tables.MemorySweeps.{AreShown, Brings, BringsOther, IsSettled, Shows, Sweeps, Updates, after}
+use Rattle.ssa_check.specs.tables.MemorySweeps.{all_left, before_of, changes_left, met, next_of, passed_at}
+use Rattle.ssa_check.specs.tables.PassedMemories.{ArePassedMemories, IsReached, SaysBefore, SaysOf, left_by, memory_on}
 use Rattle.ssa_check.specs.declared.memories.Leaves.{Leaves}
 use Rattle.ssa_check.specs.declared.memories.Leaves.TheVariants.{Through, Known, Unknown}
 use Rattle.ssa_check.specs.declared.memories.Passed.{Passed}

@@ -19,7 +19,7 @@ use Rattle.ssa_ir.specs.WellFormed.{Differ, WellFormedFunc}
 use Rattle.ssa_ir.specs.MemoryChains.{inner_of, is_inner, taken_by}
 use Rattle.ssa_check.specs.declared.memories.Passed.{Passed}
 use Rattle.ssa_check.specs.declared.memories.Passed.TheVariants.{NoPath}
-use Rattle.ssa_check.specs.MemoryTables.{EachOf, has_inner, is_other, some_other, takes_other}
+use Rattle.ssa_check.specs.tables.MemoryTables.{EachOf, has_inner, is_other, some_other, takes_other}
 
 -- ---- one more block
 

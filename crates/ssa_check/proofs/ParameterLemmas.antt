@@ -6,8 +6,8 @@ use Rattle.std.proofs.lemmas.Bool.Decides.{nat_tests}
 use Rattle.ssa_ir.specs.declared.func.Func.{Func}
 use Rattle.ssa_ir.specs.declared.func.Value.{Value}
 use Rattle.ssa_ir.specs.Lookups.{values_of}
-use Rattle.ssa_check.specs.ParameterTables.{lowest_of, is_init_value, is_below}
-use Rattle.ssa_check.specs.Lowest.{lower_where}
+use Rattle.ssa_check.specs.tables.ParameterTables.{lowest_of, is_init_value, is_below}
+use Rattle.ssa_check.specs.tables.Lowest.{lower_where}
 use Rattle.ssa_check.specs.ValueChecks.{has_init}
 
 or_false : (a : Bool) → a ≡ (a || false)

@@ -14,7 +14,7 @@ use Rattle.ssa_check.specs.declared.refusal.Check.{Check}
 use Rattle.ssa_ir.specs.WellFormed.{WellFormedFunc}
 use Rattle.ssa_check.specs.Failing.{FuncFails, ValueFails, BlockFails, FailsAt, at_value, at_block, IsBefore, Meets}
 use Rattle.ssa_check.specs.Failing.{LeastPlace}
-use Rattle.ssa_check.specs.Lowest.{lowest_in, lowest_value, lowest_block}
+use Rattle.ssa_check.specs.tables.Lowest.{lowest_in, lowest_value, lowest_block}
 use Rattle.graphs.proofs.AnyLemmas.{any_none, any_here, any_later, any_cases}
 use Rattle.ssa_check.proofs.LowestLemmas.{IsLowest, same_lowest, Counts, fold_lowest}
 

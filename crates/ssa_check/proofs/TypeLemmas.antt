@@ -8,7 +8,7 @@ use Rattle.ssa_ir.specs.declared.func.SsaUnit.{SsaUnit}
 use Rattle.ssa_check.specs.declared.refusal.Check.TheVariants.{Types}
 use Rattle.ssa_check.specs.Failing.{at_value, Meets, LeastPlace}
 use Rattle.ssa_check.specs.OpTypes.{class_at, classes_of, last_of}
-use Rattle.ssa_check.specs.Lowest.{lowest_value}
+use Rattle.ssa_check.specs.tables.Lowest.{lowest_value}
 use Rattle.ssa_check.specs.ValueChecks.{types_hold}
 use Rattle.ssa_check.proofs.PlaceLemmas.{value_place}
 

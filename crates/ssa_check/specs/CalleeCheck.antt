@@ -13,7 +13,7 @@ use Rattle.ssa_ir.specs.declared.func.Value.{Value}
 use Rattle.ssa_ir.specs.FirstOrder.{has_value, selects}
 use Rattle.ssa_ir.specs.OpKinds.{is_call, is_follower}
 use Rattle.ssa_ir.specs.Limits.{tuple_words}
-use Rattle.ssa_ir.specs.Lookups.{sig_of, value_of, values_of, named_by}
+use Rattle.ssa_ir.specs.Lookups.{sig_of, values_of, named_by}
 use Rattle.ssa_ir.specs.declared.classes.Class.{Class}
 use Rattle.ssa_ir.specs.declared.classes.Class.TheVariants.{Memory}
 use Rattle.ssa_ir.specs.Classes.{class_of, class_of_scalar, same_class, is_memory}

@@ -1,22 +1,10 @@
+-- What each check asks.
 pub mod BlockChecks
-pub mod CalleeCheck
-pub mod ChainLinks
-pub mod ChainTables
-pub mod CheckNames
-pub mod EdgeTables
-pub mod Failing
-pub mod Items
-pub mod LeastPlaces
-pub mod Lowest
-pub mod MemorySweeps
-pub mod MemoryTables
-pub mod OpTypes
-pub mod ParameterTables
-pub mod PassedMemories
-pub mod PassedRows
-pub mod PassedSteps
-pub mod PathTests
-pub mod Selects
-pub mod UndefinedTables
-pub mod Uses
 pub mod ValueChecks
+pub mod OpTypes
+pub mod CalleeCheck
+-- Which places fail, the first of them, and the names of checks.
+pub mod Failing
+pub mod CheckNames
+-- What private contracts cite.
+pub mod tables

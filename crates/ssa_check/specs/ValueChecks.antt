@@ -1,17 +1,15 @@
 -- What the checks of values by themselves and of their arguments ask: which values are as they must be.
-use Rattle.std.specs.Prelude.{ℕ, ℤ, pos, negsuc, ◌==◌, nat_lt, Bool, true, false, not, ◌&&◌, ◌||◌, List, [], ◌∷◌}
+use Rattle.std.specs.Prelude.{ℕ, ℤ, pos, negsuc, ◌==◌, nat_lt, Bool, true, false, not, ◌&&◌, ◌||◌}
 use Rattle.std.specs.Prelude.{length, Option, None, Some, slice_get}
 use Rattle.std.specs.List.{list_any}
 use Rattle.std.specs.Ordering.{int_eq}
 use Rattle.ssa_ir.specs.declared.op.Arity.{Arity}
 use Rattle.ssa_ir.specs.declared.op.Arity.TheVariants.{Exact, Any}
-use Rattle.ssa_ir.specs.declared.op.Op.{Op}
-use Rattle.ssa_ir.specs.declared.op.Op.TheVariants.{Arg, InitMem}
 use Rattle.ssa_ir.specs.declared.types.Scalar.{Scalar}
 use Rattle.ssa_ir.specs.declared.func.Block.{Block}
 use Rattle.ssa_ir.specs.declared.func.Func.{Func}
 use Rattle.ssa_ir.specs.declared.func.Value.{Value}
-use Rattle.ssa_ir.specs.Edges.{same_block, is_entry}
+use Rattle.ssa_ir.specs.Edges.{is_entry}
 use Rattle.ssa_ir.specs.OpKinds.{is_phi, is_arg, is_init}
 use Rattle.ssa_ir.specs.Lookups.{values_of}
 use Rattle.ssa_ir.specs.Ops.{row_of}

@@ -12,10 +12,11 @@ ghost use Rattle.ssa_check.specs.declared.refusal.Check.TheVariants as check;
 ghost use Rattle.ssa_check.specs.CalleeCheck as spec;
 ghost use Rattle.ssa_check.specs.Failing.{Meets, LeastPlace};
 ghost use Rattle.ssa_check.specs.OpTypes as ops;
-ghost use Rattle.ssa_check.specs.Selects.{picks_by, picks_of, is_memory_of, is_index_of, is_below, is_key, says_memory};
-ghost use Rattle.ssa_check.specs.Selects.{says_lowest, TellsOf};
+ghost use Rattle.ssa_check.specs.tables.Selects.{picks_by, picks_of, is_memory_of, is_index_of, is_below, is_key};
+ghost use Rattle.ssa_check.specs.tables.Selects.{says_memory};
+ghost use Rattle.ssa_check.specs.tables.Selects.{says_lowest, TellsOf};
 ghost use Rattle.ssa_tables.specs.SignatureTable.{names_of};
-ghost use Rattle.ssa_check.specs.Lowest.{lower_where};
+ghost use Rattle.ssa_check.specs.tables.Lowest.{lower_where};
 
 use crate::lowest::{ValueTest, lowest_value, value_place};
 use crate::refusal::At;

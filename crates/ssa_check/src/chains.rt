@@ -6,8 +6,8 @@ ghost use Rattle.std.specs.Option.{option_map};
 ghost use Rattle.gossa_base.specs.declared.ids.ValueId.{ValueId as IrValueId};
 ghost use Rattle.indexmap.specs.IndexMap.{insert_all};
 ghost use Rattle.ssa_check.specs.CalleeCheck as callee;
-ghost use Rattle.ssa_check.specs.ChainLinks as links;
-ghost use Rattle.ssa_check.specs.ChainTables.{LeavesOf};
+ghost use Rattle.ssa_check.specs.tables.ChainLinks as links;
+ghost use Rattle.ssa_check.specs.tables.ChainTables.{LeavesOf};
 ghost use Rattle.ssa_ir.specs.MemoryChains as spec;
 
 use crate::memories::Leaves;

@@ -13,7 +13,7 @@ ghost use Rattle.ssa_check.specs.BlockChecks as spec;
 ghost use Rattle.ssa_ir.specs.Classes as classes;
 ghost use Rattle.ssa_check.specs.Failing.{Meets, LeastPlace};
 ghost use Rattle.ssa_check.specs.OpTypes as types;
-ghost use Rattle.ssa_check.specs.Uses.{is_noted, is_taken, is_control, TellsOf};
+ghost use Rattle.ssa_check.specs.tables.Uses.{is_noted, is_taken, is_control, TellsOf};
 
 use crate::callees::{are_like, have_types, stands_in, tuple_words};
 use crate::lowest::{BlockTest, lowest_block, place_of_block};

@@ -5,7 +5,7 @@ ghost use Rattle.std.specs.List.Sorted.{IsPermutation, IsSorted};
 ghost use Rattle.ssa_ir.specs.declared.func.SsaUnit.{SsaUnit as IrUnit};
 ghost use Rattle.ssa_ir.specs.WellFormed.{WellFormedFunc};
 ghost use Rattle.ssa_check.specs.declared.refusal.Check.TheVariants as check;
-ghost use Rattle.ssa_check.specs.EdgeTables as spec;
+ghost use Rattle.ssa_check.specs.tables.EdgeTables as spec;
 ghost use Rattle.ssa_check.specs.Failing.{Meets, LeastPlace};
 
 use crate::lowest::place_of_block;

@@ -4,9 +4,9 @@ ghost use Rattle.std.specs.Prelude.{◌≡◌, Bool};
 ghost use Rattle.std.specs.List.{All};
 ghost use Rattle.ssa_ir.specs.declared.func.Block.{Block as IrBlock};
 ghost use Rattle.ssa_ir.specs.declared.func.Value.{Value as IrValue};
-ghost use Rattle.ssa_check.specs.Lowest as spec;
+ghost use Rattle.ssa_check.specs.tables.Lowest as spec;
 ghost use Rattle.ssa_check.specs.Failing.{at_value, at_block};
-ghost use Rattle.ssa_check.specs.LeastPlaces as places;
+ghost use Rattle.ssa_check.specs.tables.LeastPlaces as places;
 
 use crate::refusal::At;
 use gossa_base::{BlockId, ValueId};

@@ -3,8 +3,8 @@
 
 ghost use Rattle.std.specs.Prelude.{◌≡◌, ◌<◌, List, length, IfOk};
 ghost use Rattle.std.specs.List.{All};
-ghost use Rattle.ssa_check.specs.MemorySweeps as spec;
-ghost use Rattle.ssa_check.specs.PassedMemories.{ArePassedMemories, SaysBefore};
+ghost use Rattle.ssa_check.specs.tables.MemorySweeps as spec;
+ghost use Rattle.ssa_check.specs.tables.PassedMemories.{ArePassedMemories, SaysBefore};
 
 use gossa_base::{NoMemory, ValueId};
 use ssa_tables::Flow;

@@ -9,8 +9,8 @@ ghost use Rattle.ssa_ir.specs.Lookups.{values_of};
 ghost use Rattle.ssa_ir.specs.WellFormed.{WellFormedFunc};
 ghost use Rattle.ssa_check.specs.declared.refusal.Check.TheVariants as check;
 ghost use Rattle.ssa_check.specs.Failing.{Meets, LeastPlace};
-ghost use Rattle.ssa_check.specs.ParameterTables as tables;
-ghost use Rattle.ssa_check.specs.Lowest.{lower_where};
+ghost use Rattle.ssa_check.specs.tables.ParameterTables as tables;
+ghost use Rattle.ssa_check.specs.tables.Lowest.{lower_where};
 ghost use Rattle.ssa_ir.specs.OpKinds as kinds;
 ghost use Rattle.ssa_check.specs.ValueChecks as spec;
 

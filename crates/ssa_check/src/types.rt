@@ -4,7 +4,6 @@ ghost use Rattle.std.specs.Prelude.{◌≡◌, MatchOption, not};
 ghost use Rattle.std.specs.List.{list_all};
 ghost use Rattle.ssa_ir.specs.declared.func.SsaUnit.{SsaUnit as IrUnit};
 ghost use Rattle.ssa_ir.specs.Lookups.{value_of};
-ghost use Rattle.ssa_ir.specs.Widths as widths;
 ghost use Rattle.ssa_check.specs.declared.refusal.Check.TheVariants as check;
 ghost use Rattle.ssa_ir.specs.Classes as classes;
 ghost use Rattle.ssa_check.specs.Failing.{Meets, LeastPlace};
@@ -15,8 +14,7 @@ use crate::lowest::{ValueTest, lowest_value, value_place};
 use crate::refusal::At;
 use gossa_base::ValueId;
 use ssa_ir::{
-    Block, Class, Op, Scalar, Value, Width, WidthPair, class_of, class_of_scalar, is_scalar,
-    same_class,
+    Block, Class, Op, Scalar, Value, Width, class_of, class_of_scalar, is_scalar, same_class,
 };
 use ssa_tables::FuncTables;
 use std::marker::Model;
@@ -123,28 +121,6 @@ fn class_of_elem(elem: Option<Scalar>) -> Class
     match elem {
         Some(scalar) => class_of_scalar(scalar),
         None => Class::Neither,
-    }
-}
-
-// The smaller of two widths.
-fn narrow_of(pair: WidthPair) -> Width
-    ensures { result ≡ widths.narrow_of pair }
-{
-    match pair {
-        WidthPair::W8W16 | WidthPair::W8W32 | WidthPair::W8W64 => Width::W8,
-        WidthPair::W16W32 | WidthPair::W16W64 => Width::W16,
-        WidthPair::W32W64 => Width::W32,
-    }
-}
-
-// The greater of two widths.
-fn wide_of(pair: WidthPair) -> Width
-    ensures { result ≡ widths.wide_of pair }
-{
-    match pair {
-        WidthPair::W8W16 => Width::W16,
-        WidthPair::W8W32 | WidthPair::W16W32 => Width::W32,
-        WidthPair::W8W64 | WidthPair::W16W64 | WidthPair::W32W64 => Width::W64,
     }
 }
 
@@ -302,13 +278,13 @@ impl TypesTest<'_> {
             }
             Op::SignExt(pair) | Op::ZeroExt(pair) => self.exactly(
                 value,
-                &[Class::Int(narrow_of(pair))],
-                Class::Int(wide_of(pair)),
+                &[Class::Int(pair.narrow())],
+                Class::Int(pair.wide()),
             ),
             Op::Trunc(pair) => self.exactly(
                 value,
-                &[Class::Int(wide_of(pair))],
-                Class::Int(narrow_of(pair)),
+                &[Class::Int(pair.wide())],
+                Class::Int(pair.narrow()),
             ),
             Op::AddPtr => {
                 self.exactly(

@@ -14,11 +14,13 @@ use Rattle.ssa_ir.specs.Edges.{block_named, edge_number}
 use Rattle.ssa_ir.specs.Inputs.{Inputs, Answer, parameter_word, symbol_word}
 use Rattle.ssa_ir.specs.Phis.{entered}
 use Rattle.ssa_ir.specs.declared.role.Role.{Role}
-use Rattle.ssa_ir.specs.declared.role.Role.TheVariants.{Computes, TakesParameter, TakesAddress, Loads, Stores}
-use Rattle.ssa_ir.specs.declared.role.Role.TheVariants.{ChecksNil, Calls, Rests, NotBuilt}
+use Rattle.ssa_ir.specs.declared.role.Role.TheVariants.{Computes, Compares, TakesParameter, TakesAddress, Loads}
+use Rattle.ssa_ir.specs.declared.role.Role.TheVariants.{Stores, ChecksNil, Calls, Rests}
 use Rattle.ssa_ir.specs.Roles.{role}
+use Rattle.ssa_ir.specs.Conditions.{holds}
 use Rattle.ssa_ir.specs.Run.{Form, State, with_word, computed, pointer, loaded_word, stored_memory, shown_of}
-use Rattle.ssa_ir.specs.Run.{with_answer, takes_answer, control_word, is_set, run_role, run_values, arrives, goes_to}
+use Rattle.ssa_ir.specs.Run.{with_answer, takes_answer, control_word, flags_of, is_set, run_role, run_values, arrives}
+use Rattle.ssa_ir.specs.Run.{goes_to}
 use Rattle.ssa_ir.specs.Run.{leaves, run_control, run_block, to_counted, turns, begun, run_from, run}
 use Rattle.ssa_ir.specs.Showing.{ends, call_then}
 use Rattle.ssa_ir.specs.Widths.{kept}
@@ -54,6 +56,7 @@ role_stays : (form : Form) (inputs : Inputs) (block : List Value) (v : Value) (r
     → ((t : State) → Stays (go t) (more t))
     → Stays (run_role form inputs block v r s go) (run_role form inputs block v r s more)
 role_stays form inputs block v Computes s go more h = h (with_word s v.id.0 (computed v s.words))
+role_stays form inputs block v Compares s go more h = h (with_word s v.id.0 (computed v s.words))
 role_stays form inputs block v TakesParameter s go more h =
     h (with_word s v.id.0 (kept form.whole v.ty (parameter_word inputs v.aux)))
 role_stays form inputs block v TakesAddress s go more h =
@@ -67,7 +70,6 @@ role_stays form inputs block v Calls s go more h =
     (takes_answer form block v s s.answers more)
     (answer_stays form block v s s.answers go more h)
 role_stays form inputs block v Rests s go more h = h s
-role_stays form inputs block v NotBuilt s go more h = λ _. refl
 
 values_stay : (form : Form) (inputs : Inputs) (block values : List Value) (s : State) (go more : State → Shown)
     → ((t : State) → Stays (go t) (more t))
@@ -98,7 +100,8 @@ control_stays form f go more b If s h =
     leaves_stays f go more b (cond (is_set (control_word s.words b.control)) 0 1) s h
 control_stays form f go more b Ret s h = λ _. refl
 control_stays form f go more b Exit s h = λ _. refl
-control_stays form f go more b (Cond c) s h = λ _. refl
+control_stays form f go more b (Cond c) s h =
+    leaves_stays f go more b (cond (holds c (flags_of (control_word s.words b.control))) 0 1) s h
 control_stays form f go more b Bit s h =
     leaves_stays f go more b (cond (is_set (control_word s.words b.control)) 0 1) s h
 

@@ -38,8 +38,8 @@ xor_at k a b = bit_xor (low k a) (low k b)
 abbrev pub inverted_at : (k a : ℕ) → ℕ
 inverted_at k a = 2 ^ k - 1 - low k a
 
--- ---- quotients, toward 0, and their remainders. The least number by -1 has a quotient one above the greatest number: cut, it
--- is the least number
+-- ---- quotients, toward 0, and their remainders. The least number by -1 has a quotient one above the greatest number:
+-- cut, it is the least number
 
 -- signed; by 0 it is 0
 abbrev pub quotient_at : (k a b : ℕ) → ℕ

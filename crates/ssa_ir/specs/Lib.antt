@@ -1,4 +1,5 @@
 -- Ops: their table, names, roles, and what each computes.
+pub mod OpFacts
 pub mod Ops
 pub mod AllOps
 pub mod OpKinds

@@ -18,6 +18,7 @@ use Rattle.ssa_ir.specs.declared.case.End.TheVariants.{Returned, Trapped, Exited
 use Rattle.ssa_ir.specs.declared.case.Shown.{Shown}
 use Rattle.ssa_ir.specs.Access.{address, loaded, stored}
 use Rattle.ssa_ir.specs.Calls.{words_before_memory, shown_call, answered}
+use Rattle.ssa_ir.specs.Conditions.{holds}
 use Rattle.ssa_ir.specs.Edges.{block_named, edge_number}
 use Rattle.ssa_ir.specs.Evaluation.{eval}
 use Rattle.ssa_ir.specs.FirstOrder.{first_order}
@@ -25,8 +26,12 @@ use Rattle.ssa_ir.specs.Inputs.{Inputs, Answer, parameter_word, symbol_word}
 use Rattle.ssa_ir.specs.Lookups.{value_named}
 use Rattle.ssa_ir.specs.Phis.{entered}
 use Rattle.ssa_ir.specs.declared.role.Role.{Role}
-use Rattle.ssa_ir.specs.declared.role.Role.TheVariants.{Computes, TakesParameter, TakesAddress, Loads, Stores}
-use Rattle.ssa_ir.specs.declared.role.Role.TheVariants.{ChecksNil, Calls, Rests, NotBuilt}
+use Rattle.ssa_ir.specs.declared.op_facts.Takes.{Takes}
+use Rattle.ssa_ir.specs.declared.op_facts.Takes.TheVariants.{Words, WordsAndMemory, WordsAndFlags, AnyWordsAndMemory}
+use Rattle.ssa_ir.specs.declared.op_facts.Takes.TheVariants.{OneAnEdge, ItsCall}
+use Rattle.ssa_ir.specs.declared.role.Role.TheVariants.{Computes, Compares, TakesParameter, TakesAddress, Loads}
+use Rattle.ssa_ir.specs.declared.role.Role.TheVariants.{Stores, ChecksNil, Calls, Rests}
+use Rattle.ssa_ir.specs.OpFacts.{facts}
 use Rattle.ssa_ir.specs.Roles.{role}
 use Rattle.ssa_ir.specs.Showing.{ends, call_then, words_at}
 use Rattle.ssa_ir.specs.Widths.{kept}
@@ -68,9 +73,22 @@ operand words [] i = 0
 operand words (a ∷ args) zero = words a.0
 operand words (a ∷ args) (suc i) = operand words args i
 
--- the flags that an op reads, of these arguments; no op that is built reads any
+-- the flags in a word: its low four bits
+abbrev pub flags_of : ℕ → ℕ
+flags_of w = low 4 w
+
+-- the flags behind the words that an op takes
+abbrev pub flags_taken : Takes → (ℕ → ℕ) → List ValueId → ℕ
+flags_taken (Words n) words args = 0
+flags_taken (WordsAndMemory n) words args = 0
+flags_taken (WordsAndFlags n) words args = flags_of (operand words args n)
+flags_taken AnyWordsAndMemory words args = 0
+flags_taken OneAnEdge words args = 0
+flags_taken ItsCall words args = 0
+
+-- the flags that an op reads, of these arguments: those of the last one
 abbrev pub flags_word : Op → (ℕ → ℕ) → List ValueId → ℕ
-flags_word _ words args = 0
+flags_word op words args = flags_taken (facts op).takes words args
 
 -- the word that a value computes
 abbrev pub computed : Value → (ℕ → ℕ) → ℕ
@@ -113,6 +131,7 @@ takes_answer form block v s (a ∷ answers) go = go (with_answer form block v s 
 -- a value of this role, among all values of its block, and then the rest of the run
 abbrev pub run_role : Form → Inputs → (block : List Value) → Value → Role → State → (State → Shown) → Shown
 run_role form inputs block v Computes s go = go (with_word s v.id.0 (computed v s.words))
+run_role form inputs block v Compares s go = go (with_word s v.id.0 (computed v s.words))
 run_role form inputs block v TakesParameter s go =
     go (with_word s v.id.0 (kept form.whole v.ty (parameter_word inputs v.aux)))
 run_role form inputs block v TakesAddress s go = go (with_word s v.id.0 (symbol_word inputs (unwrap_or v.sym [])))
@@ -123,7 +142,6 @@ run_role form inputs block v ChecksNil s go =
     (with_word s v.id.0 (pointer v s.words))
 run_role form inputs block v Calls s go = call_then (shown_of form v s) (takes_answer form block v s s.answers go)
 run_role form inputs block v Rests s go = go s
-run_role form inputs block v NotBuilt s go = ends Stuck
 
 -- values in order, among all values of their block, and then the rest of the run
 abbrev pub run_values : Form → Inputs → (block : List Value) → List Value → State → (State → Shown) → Shown
@@ -160,7 +178,7 @@ leaves f go b j s = goes_to f go b j s (slice_get b.succs j)
 abbrev pub is_set : ℕ → Bool
 is_set w = low 1 w == 1
 
--- how a block of this kind ends, and then the rest of the run; no op that is built makes flags
+-- how a block of this kind ends, and then the rest of the run; the control of a branch on a condition is a comparison
 abbrev pub run_control : Form → Func → (Block → Option ℕ → State → Shown) → Block → Kind → State → Shown
 run_control form f go b Plain s = leaves f go b 0 s
 run_control form f go b If s = leaves f go b (if is_set (control_word s.words b.control) then 0 else 1) s
@@ -168,7 +186,8 @@ run_control form f go b Ret s =
     ends (Returned (words_at f.sig.results (result_words s.words (controlling (form.values b) b.control)))
     (changed s.since s.memory))
 run_control form f go b Exit s = ends (Exited (changed s.since s.memory))
-run_control form f go b (Cond c) s = ends Stuck
+run_control form f go b (Cond c) s =
+    leaves f go b (if holds c (flags_of (control_word s.words b.control)) then 0 else 1) s
 run_control form f go b Bit s = leaves f go b (if is_set (control_word s.words b.control) then 0 else 1) s
 
 -- one block, entered by an edge or from outside, and then the rest of the run

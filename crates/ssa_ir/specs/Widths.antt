@@ -16,6 +16,9 @@ bits W16 = 16
 bits W32 = 32
 bits W64 = 64
 
+abbrev pub bytes : Width → ℕ
+bytes w = bits w / 8
+
 -- the smaller and the greater width of two
 abbrev pub narrow_of : WidthPair → Width
 narrow_of W8W16 = W8

@@ -10,14 +10,12 @@
 //! b1:  ...  Ret v5              block 1, kind Ret, control v5
 //! ```
 //!
-//! [`op_row`] is the table of ops: how many arguments each takes, what its brackets or braces hold, and whether it
-//! reads or makes a memory. `specs/WellFormed.antt` says what a well-formed unit is.
+//! [`facts_of`] is the table of ops: what each takes and gives, what its brackets or braces hold, what it is to a run
+//! ([`role_of`]), and which bytes it moves. [`op_row`] and [`Op::is_machine`] follow from it. `specs/WellFormed.antt`
+//! says what a well-formed unit is.
 //!
-//! What a function shows in a case is defined in `specs/Run.antt`, and what each op is to a run in `specs/Roles.antt`
-//! ([`role_of`]).
-//!
-//! Known limits: a run takes every generic op, and of the machine's ops only the sum: one that comes to another ends
-//! stuck.
+//! What a function shows in a case is defined in `specs/Run.antt`, for generic ops and for the machine's. Flags are a
+//! word there: that of their comparison, which what reads flags takes as its last argument.
 #![tactic(auto)]
 
 pub mod abi;
@@ -29,6 +27,7 @@ pub mod laws;
 pub mod limits;
 pub mod lookups;
 pub mod op;
+pub mod op_facts;
 pub mod op_kinds;
 pub mod op_names;
 mod op_places;
@@ -36,6 +35,7 @@ mod op_search;
 pub mod role;
 pub mod texts;
 pub mod types;
+pub mod widths;
 
 pub use abi::AbiPlace;
 pub use args::Args;
@@ -46,6 +46,7 @@ pub use case::{
 pub use classes::{Class, class_of, class_of_scalar, is_scalar, same_class};
 pub use func::{Block, BlockIds, Blocks, Func, Funcs, Kind, SsaUnit, Value, Values};
 pub use op::{Arity, AuxRule, CondCode, Op, OpRow, Width, WidthPair, op_row};
+pub use op_facts::{Access, Gives, OpFacts, Takes, facts_of};
 pub use op_kinds::same_memory;
 pub use role::{Role, role_of};
 pub use texts::print_sigs;

@@ -1,7 +1,9 @@
-// What a value computes, and the table of all ops.
+// What a value computes, and what its row says of its arguments and its memory.
 
 ghost use Rattle.std.specs.Prelude.{◌≡◌};
 ghost use Rattle.ssa_ir.specs.Ops as spec;
+
+use crate::op_facts::facts_of;
 
 /// The width of an integer op, in bits.
 #[derive(Clone, Copy, Debug, PartialEq, Eq)]
@@ -271,124 +273,7 @@ impl Op {
     pub fn is_machine(self) -> bool
         ensures { result ≡ spec.is_machine self }
     {
-        match self {
-            Op::Add(_)
-            | Op::Sub(_)
-            | Op::Mul(_)
-            | Op::And(_)
-            | Op::Or(_)
-            | Op::Xor(_)
-            | Op::Neg(_)
-            | Op::Com(_)
-            | Op::Div(_)
-            | Op::DivU(_) => false,
-            Op::Mod(_)
-            | Op::ModU(_)
-            | Op::Lsh(_)
-            | Op::Rsh(_)
-            | Op::RshU(_)
-            | Op::Eq(_)
-            | Op::Neq(_)
-            | Op::Less(_)
-            | Op::Leq(_)
-            | Op::LessU(_) => false,
-            Op::LeqU(_)
-            | Op::EqB
-            | Op::NeqB
-            | Op::AndB
-            | Op::OrB
-            | Op::Not
-            | Op::EqPtr
-            | Op::NeqPtr
-            | Op::IsNonNil
-            | Op::IsInBounds => false,
-            Op::IsSliceInBounds
-            | Op::SignExt(_)
-            | Op::ZeroExt(_)
-            | Op::Trunc(_)
-            | Op::AddPtr
-            | Op::OffPtr
-            | Op::Load
-            | Op::Store
-            | Op::NilCheck
-            | Op::CondSelect => false,
-            Op::Const(_)
-            | Op::ConstBool
-            | Op::ConstNil
-            | Op::SB
-            | Op::Addr
-            | Op::Phi
-            | Op::Copy
-            | Op::Arg
-            | Op::InitMem
-            | Op::StaticLECall => false,
-            Op::SelectN | Op::MakeResult => false,
-            Op::Arm64MOVDconst
-            | Op::Arm64MOVDaddr
-            | Op::Arm64ADD
-            | Op::Arm64SUB
-            | Op::Arm64AND
-            | Op::Arm64OR
-            | Op::Arm64XOR
-            | Op::Arm64MUL
-            | Op::Arm64MULW
-            | Op::Arm64ADDconst => true,
-            Op::Arm64SUBconst
-            | Op::Arm64ANDconst
-            | Op::Arm64ORconst
-            | Op::Arm64XORconst
-            | Op::Arm64NEG
-            | Op::Arm64MVN
-            | Op::Arm64DIV
-            | Op::Arm64UDIV
-            | Op::Arm64DIVW
-            | Op::Arm64UDIVW => true,
-            Op::Arm64MOD
-            | Op::Arm64UMOD
-            | Op::Arm64MODW
-            | Op::Arm64UMODW
-            | Op::Arm64SLL
-            | Op::Arm64SRL
-            | Op::Arm64SRA
-            | Op::Arm64SLLconst
-            | Op::Arm64SRLconst
-            | Op::Arm64SRAconst => true,
-            Op::Arm64MOVBreg
-            | Op::Arm64MOVHreg
-            | Op::Arm64MOVWreg
-            | Op::Arm64MOVBUreg
-            | Op::Arm64MOVHUreg
-            | Op::Arm64MOVWUreg
-            | Op::Arm64CMP
-            | Op::Arm64CMPW
-            | Op::Arm64CMPconst
-            | Op::Arm64CMPWconst => true,
-            Op::Arm64TSTWconst
-            | Op::Arm64Equal
-            | Op::Arm64NotEqual
-            | Op::Arm64LessThan
-            | Op::Arm64LessEqual
-            | Op::Arm64GreaterThan
-            | Op::Arm64GreaterEqual
-            | Op::Arm64LessThanU
-            | Op::Arm64LessEqualU
-            | Op::Arm64GreaterThanU => true,
-            Op::Arm64GreaterEqualU
-            | Op::Arm64CSEL
-            | Op::Arm64MOVBload
-            | Op::Arm64MOVHload
-            | Op::Arm64MOVWload
-            | Op::Arm64MOVBUload
-            | Op::Arm64MOVHUload
-            | Op::Arm64MOVWUload
-            | Op::Arm64MOVDload
-            | Op::Arm64MOVBstore => true,
-            Op::Arm64MOVHstore
-            | Op::Arm64MOVWstore
-            | Op::Arm64MOVDstore
-            | Op::Arm64LoweredNilCheck
-            | Op::Arm64CALLstatic => true,
-        }
+        facts_of(self).machine
     }
 }
 
@@ -449,150 +334,11 @@ pub struct OpRow {
 pub fn op_row(op: Op) -> OpRow
     ensures { result ≡ spec.row_of op }
 {
-    match op {
-        Op::Add(_) | Op::Sub(_) | Op::Mul(_) | Op::And(_) | Op::Or(_) | Op::Xor(_) => plain(
-            2,
-            AuxRule::Nothing,
-        ),
-        Op::Neg(_) | Op::Com(_) => plain(1, AuxRule::Nothing),
-        Op::Div(_)
-        | Op::DivU(_)
-        | Op::Mod(_)
-        | Op::ModU(_)
-        | Op::Lsh(_)
-        | Op::Rsh(_)
-        | Op::RshU(_) => plain(2, AuxRule::Dropped),
-        Op::Eq(_) | Op::Neq(_) | Op::Less(_) | Op::Leq(_) | Op::LessU(_) | Op::LeqU(_) => plain(
-            2,
-            AuxRule::Nothing,
-        ),
-        Op::EqB | Op::NeqB | Op::AndB | Op::OrB => plain(2, AuxRule::Nothing),
-        Op::Not => plain(1, AuxRule::Nothing),
-        Op::EqPtr | Op::NeqPtr => plain(2, AuxRule::Nothing),
-        Op::IsNonNil => plain(1, AuxRule::Nothing),
-        Op::IsInBounds | Op::IsSliceInBounds => plain(2, AuxRule::Nothing),
-        Op::SignExt(_) | Op::ZeroExt(_) | Op::Trunc(_) => plain(1, AuxRule::Nothing),
-        Op::AddPtr => plain(2, AuxRule::Nothing),
-        Op::OffPtr => plain(1, AuxRule::Int),
-        Op::Load => reader(2, AuxRule::Nothing),
-        Op::Store => maker(3, AuxRule::Elem),
-        Op::NilCheck => reader(2, AuxRule::Nothing),
-        Op::CondSelect => plain(3, AuxRule::Nothing),
-        Op::Const(_) => plain(0, AuxRule::Int),
-        Op::ConstBool => plain(0, AuxRule::Bool),
-        Op::ConstNil | Op::SB => plain(0, AuxRule::Nothing),
-        Op::Addr => plain(1, AuxRule::Sym),
-        Op::Phi => any_number(AuxRule::Nothing),
-        Op::Copy => plain(1, AuxRule::Nothing),
-        Op::Arg => plain(0, AuxRule::Int),
-        Op::InitMem => maker(0, AuxRule::Nothing),
-        Op::StaticLECall => any_number(AuxRule::Sym),
-        Op::SelectN => plain(1, AuxRule::Int),
-        Op::MakeResult => any_number(AuxRule::Nothing),
-        Op::Arm64MOVDconst => plain(0, AuxRule::Int),
-        Op::Arm64MOVDaddr => plain(0, AuxRule::Sym),
-        Op::Arm64ADD
-        | Op::Arm64SUB
-        | Op::Arm64AND
-        | Op::Arm64OR
-        | Op::Arm64XOR
-        | Op::Arm64MUL
-        | Op::Arm64MULW => plain(2, AuxRule::Nothing),
-        Op::Arm64ADDconst
-        | Op::Arm64SUBconst
-        | Op::Arm64ANDconst
-        | Op::Arm64ORconst
-        | Op::Arm64XORconst => plain(1, AuxRule::Int),
-        Op::Arm64NEG | Op::Arm64MVN => plain(1, AuxRule::Nothing),
-        Op::Arm64DIV
-        | Op::Arm64UDIV
-        | Op::Arm64DIVW
-        | Op::Arm64UDIVW
-        | Op::Arm64MOD
-        | Op::Arm64UMOD
-        | Op::Arm64MODW
-        | Op::Arm64UMODW => plain(2, AuxRule::Nothing),
-        Op::Arm64SLL | Op::Arm64SRL | Op::Arm64SRA => plain(2, AuxRule::Nothing),
-        Op::Arm64SLLconst | Op::Arm64SRLconst | Op::Arm64SRAconst => plain(1, AuxRule::Int),
-        Op::Arm64MOVBreg
-        | Op::Arm64MOVHreg
-        | Op::Arm64MOVWreg
-        | Op::Arm64MOVBUreg
-        | Op::Arm64MOVHUreg
-        | Op::Arm64MOVWUreg => plain(1, AuxRule::Nothing),
-        Op::Arm64CMP | Op::Arm64CMPW => plain(2, AuxRule::Nothing),
-        Op::Arm64CMPconst | Op::Arm64CMPWconst | Op::Arm64TSTWconst => plain(1, AuxRule::Int),
-        Op::Arm64Equal
-        | Op::Arm64NotEqual
-        | Op::Arm64LessThan
-        | Op::Arm64LessEqual
-        | Op::Arm64GreaterThan
-        | Op::Arm64GreaterEqual
-        | Op::Arm64LessThanU
-        | Op::Arm64LessEqualU
-        | Op::Arm64GreaterThanU
-        | Op::Arm64GreaterEqualU => plain(1, AuxRule::Nothing),
-        Op::Arm64CSEL => plain(3, AuxRule::Int),
-        Op::Arm64MOVBload
-        | Op::Arm64MOVHload
-        | Op::Arm64MOVWload
-        | Op::Arm64MOVBUload
-        | Op::Arm64MOVHUload
-        | Op::Arm64MOVWUload
-        | Op::Arm64MOVDload => reader(2, AuxRule::Int),
-        Op::Arm64MOVBstore | Op::Arm64MOVHstore | Op::Arm64MOVWstore | Op::Arm64MOVDstore => maker(
-            3,
-            AuxRule::Int,
-        ),
-        Op::Arm64LoweredNilCheck => reader(2, AuxRule::Nothing),
-        Op::Arm64CALLstatic => any_number(AuxRule::Sym),
-    }
-}
-
-// The row of an op of so many arguments that neither reads nor makes a memory.
-fn plain(arguments: u32, aux: AuxRule) -> OpRow
-    ensures { result ≡ spec.plain arguments aux }
-{
+    let facts = facts_of(op);
     OpRow {
-        arity: Arity::Exact(arguments),
-        aux,
-        reads_mem: false,
-        makes_mem: false,
-    }
-}
-
-// The row of an op of any number of arguments that neither reads nor makes a memory by itself.
-fn any_number(aux: AuxRule) -> OpRow
-    ensures { result ≡ spec.any_number aux }
-{
-    OpRow {
-        arity: Arity::Any,
-        aux,
-        reads_mem: false,
-        makes_mem: false,
-    }
-}
-
-// The row of an op that reads a memory, its last argument.
-fn reader(arguments: u32, aux: AuxRule) -> OpRow
-    ensures { result ≡ spec.reader arguments aux }
-{
-    OpRow {
-        arity: Arity::Exact(arguments),
-        aux,
-        reads_mem: true,
-        makes_mem: false,
-    }
-}
-
-// The row of an op that makes a memory.
-fn maker(arguments: u32, aux: AuxRule) -> OpRow
-    ensures { result ≡ spec.maker arguments aux }
-{
-    OpRow {
-        arity: Arity::Exact(arguments),
-        aux,
-        reads_mem: false,
-        makes_mem: true,
+        arity: facts.takes.arity(),
+        aux: facts.aux,
+        reads_mem: facts.reads_memory(),
+        makes_mem: facts.gives.is_memory(),
     }
 }

@@ -28,7 +28,7 @@ pub use headers::{is_name, read_signature};
 pub use lines::{TextLines, is_allowed};
 pub use numbers::{Integer, Number, read_integer, read_number};
 pub use read_forms::read_form;
-pub use refusal::{LimitKind, TextRefusal};
+pub use refusal::{LimitKind, TextFault, TextRefusal};
 pub use tables::{NameSet, NumberSet};
 pub use types::{read_scalar, read_type};
 pub use values::read_value_line;

@@ -113,7 +113,7 @@ fn read_preds(alloc: Global, words: &mut Words) -> Result<Option<Spelled<BlockId
 // The blocks that all words left name.
 fn read_blocks(alloc: Global, words: &mut Words) -> Result<Option<Spelled<BlockIds>>, NoMemory>
     requires { 0 < length words.old }
-    ensures { IfOk result (λ blocks. blocks ≡ option_map spec.blocks_of (spec.some_blocks (numbers_ahead 98 words.old))) }
+    ensures { IfOk result (λ ids. ids ≡ option_map spec.blocks_of (spec.some_blocks (numbers_ahead 98 words.old))) }
 {
     let mut blocks = Sequence::new(alloc);
     let mut too_large = false;

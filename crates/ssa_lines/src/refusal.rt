@@ -1,7 +1,7 @@
 // Why a text is refused.
 
 ghost use Rattle.std.specs.Prelude.{◌≡◌};
-ghost use Rattle.ssa_lines.specs.declared.refusal.TextRefusal.TheVariants.{NoMemory as Wanting};
+ghost use Rattle.ssa_lines.specs.declared.refusal.TextRefusal.TheVariants.{Fault, NoMemory as Wanting};
 
 /// A limit that a text passes.
 #[derive(Clone, Copy, Debug, PartialEq, Eq)]
@@ -36,7 +36,7 @@ pub enum LimitKind {
 
 /// The first fault of a text, with the number of its line, from 1.
 #[derive(Clone, Copy, Debug, PartialEq, Eq)]
-pub enum TextRefusal {
+pub enum TextFault {
     /// A byte that no line may have.
     BadByte(u32),
     /// A line of no form, or out of place.
@@ -51,8 +51,23 @@ pub enum TextRefusal {
     UnknownRef(u32),
     /// A limit that is passed.
     Limit(LimitKind, u32),
+}
+
+/// Why nothing was read of a text.
+#[derive(Clone, Copy, Debug, PartialEq, Eq)]
+pub enum TextRefusal {
+    /// The text has a fault, and this is the first.
+    Fault(TextFault),
     /// There was no memory for what the text spells.
     NoMemory,
+}
+
+impl From<TextFault> for TextRefusal {
+    ghost from_gives = { λ fault refusal. refusal ≡ Fault fault };
+
+    fn from(fault: TextFault) -> TextRefusal {
+        TextRefusal::Fault(fault)
+    }
 }
 
 impl From<gossa_base::NoMemory> for TextRefusal {

@@ -13,15 +13,17 @@ use Rattle.ssa_ir.specs.declared.func.Block.{Block}
 use Rattle.ssa_ir.specs.declared.func.Func.{Func}
 use Rattle.ssa_ir.specs.declared.func.SsaUnit.{SsaUnit}
 use Rattle.ssa_ir.specs.declared.role.Role.{Role}
-use Rattle.ssa_ir.specs.declared.role.Role.TheVariants.{Computes, TakesParameter, TakesAddress, Loads, Stores}
-use Rattle.ssa_ir.specs.declared.role.Role.TheVariants.{ChecksNil, Calls, Rests, NotBuilt}
+use Rattle.ssa_ir.specs.declared.role.Role.TheVariants.{Computes, Compares, TakesParameter, TakesAddress, Loads}
+use Rattle.ssa_ir.specs.declared.role.Role.TheVariants.{Stores, ChecksNil, Calls, Rests}
 use Rattle.ssa_ir.specs.Edges.{block_named, edge_number}
 use Rattle.ssa_ir.specs.Inputs.{Inputs, Answer, answer_of, inputs_of, parameter_word, pieces_of, symbol_in, symbol_word}
 use Rattle.ssa_ir.specs.Lookups.{sig_of}
 use Rattle.ssa_ir.specs.Phis.{entered}
 use Rattle.ssa_ir.specs.Roles.{role}
+use Rattle.ssa_ir.specs.Conditions.{holds}
 use Rattle.ssa_ir.specs.Run.{Form, State, generic, with_word, computed, pointer, loaded_word, stored_memory, shown_of}
-use Rattle.ssa_ir.specs.Run.{with_answer, takes_answer, control_word, is_set, run_role, run_values, arrives, goes_to}
+use Rattle.ssa_ir.specs.Run.{with_answer, takes_answer, control_word, flags_of, is_set, run_role, run_values, arrives}
+use Rattle.ssa_ir.specs.Run.{goes_to}
 use Rattle.ssa_ir.specs.Run.{leaves, run_control, run_block, to_counted, turns, begun, run_from, run}
 use Rattle.ssa_ir.specs.Showing.{call_then}
 use Rattle.ssa_ir.specs.Widths.{kept}
@@ -68,6 +70,7 @@ role_same : (form : Form) (inputs : Inputs) (block : List Value) (v : Value) (r 
     → Same go plain → run_role form inputs block v r s go
     ≡ run_role form (bare_inputs inputs) block v r (bare_state s) plain
 role_same form inputs block v Computes s go plain h = h (with_word s v.id.0 (computed v s.words))
+role_same form inputs block v Compares s go plain h = h (with_word s v.id.0 (computed v s.words))
 role_same form inputs block v TakesParameter s go plain h =
     h (with_word s v.id.0 (kept form.whole v.ty (parameter_word inputs v.aux)))
 role_same form inputs block v TakesAddress s go plain h =
@@ -79,7 +82,6 @@ role_same form inputs block v ChecksNil s go plain h =
 role_same form inputs block v Calls s go plain h =
     ap (call_then (shown_of form v s)) (answer_same form block v s s.answers go plain h)
 role_same form inputs block v Rests s go plain h = h s
-role_same form inputs block v NotBuilt s go plain h = refl
 
 values_same : (form : Form) (inputs : Inputs) (block values : List Value) (s : State) (go plain : State → Shown)
     → Same go plain
@@ -112,7 +114,9 @@ control_same form f go plain b If s h =
     (cond (is_set (control_word s.words b.control)) 0 1) s h
 control_same form f go plain b Ret s h = refl
 control_same form f go plain b Exit s h = refl
-control_same form f go plain b (Cond c) s h = refl
+control_same form f go plain b (Cond c) s h =
+    leaves_same f go plain b
+    (cond (holds c (flags_of (control_word s.words b.control))) 0 1) s h
 control_same form f go plain b Bit s h =
     leaves_same f go plain b
     (cond (is_set (control_word s.words b.control)) 0 1) s h

@@ -14,7 +14,7 @@ use Rattle.std.specs.FinMap as finite
 use Rattle.std.specs.FinMap.Entries as entries
 use Rattle.gossa_base.specs.Words.{low}
 use Rattle.gossa_base.specs.Memory.{Memory, byte_at, change_at, changed}
-use Rattle.ssa_meaning.specs.MemoryChanges.{put_back}
+use Rattle.ssa_meaning.specs.tables.MemoryChanges.{put_back}
 use Rattle.ssa_meaning.proofs.ChangeLemmas.{new_byte, tied, both, changed_is}
 use Rattle.ssa_meaning.proofs.MemoryLemmas.{is_at, once, found_over, get-put_back, over_found}
 

@@ -16,7 +16,7 @@ use Rattle.std.specs.FinMap.{nat_cmp-IsAntisymmetric}
 use Rattle.std.specs.FinMap.Entries as entries
 use Rattle.gossa_base.specs.Words.{low}
 use Rattle.gossa_base.specs.Memory.{Memory, byte_at, read_number, bytes_of, write_bytes}
-use Rattle.ssa_meaning.specs.MemoryChanges.{put_back}
+use Rattle.ssa_meaning.specs.tables.MemoryChanges.{put_back}
 use Rattle.ssa_meaning.proofs.ChangeLemmas.{tied}
 use Rattle.ssa_meaning.proofs.LoadLemmas.{read_below}
 

@@ -8,7 +8,7 @@ use Rattle.ssa_ir.specs.Inputs.{Inputs}
 use Rattle.ssa_ir.specs.Roles.{role}
 use Rattle.ssa_ir.specs.Run.{Form, State, run_role, run_values}
 use Rattle.ssa_ir.specs.Showing.{call_then}
-use Rattle.ssa_meaning.specs.Ran.{behind}
+use Rattle.ssa_meaning.specs.tables.Ran.{behind}
 
 -- a call that is shown stands behind the calls before it
 pub behind_call : (calls : List CallShown) (c : CallShown) (s : Shown) → behind calls (call_then c s)

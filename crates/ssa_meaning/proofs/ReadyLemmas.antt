@@ -14,7 +14,7 @@ use Rattle.ssa_ir.specs.WellFormed.{WellFormedFunc}
 use Rattle.ssa_meaning.specs.declared.ready.Way.{Way}
 use Rattle.ssa_meaning.specs.declared.ready.ReadyBlock.{ReadyBlock}
 use Rattle.ssa_meaning.specs.declared.ready.ReadyFunc.{ReadyFunc}
-use Rattle.ssa_meaning.specs.Ready.{Arrives, GoesNowhere, IsReady, IsReadyBlock, LeadsTo}
+use Rattle.ssa_meaning.specs.tables.Ready.{Arrives, GoesNowhere, IsReady, IsReadyBlock, LeadsTo}
 use Rattle.block_order.specs.Apart.{AreApart}
 use Rattle.ssa_meaning.proofs.ApartLemmas.{are_apart, block_apart}
 use Rattle.ssa_tables.proofs.BlockTableLemmas.{block_at}

@@ -14,15 +14,17 @@ use Rattle.ssa_ir.specs.declared.func.Block.{Block}
 use Rattle.ssa_ir.specs.declared.func.Func.{Func}
 use Rattle.ssa_ir.specs.declared.func.SsaUnit.{SsaUnit}
 use Rattle.ssa_ir.specs.declared.role.Role.{Role}
-use Rattle.ssa_ir.specs.declared.role.Role.TheVariants.{Computes, TakesParameter, TakesAddress, Loads, Stores}
-use Rattle.ssa_ir.specs.declared.role.Role.TheVariants.{ChecksNil, Calls, Rests, NotBuilt}
+use Rattle.ssa_ir.specs.declared.role.Role.TheVariants.{Computes, Compares, TakesParameter, TakesAddress, Loads}
+use Rattle.ssa_ir.specs.declared.role.Role.TheVariants.{Stores, ChecksNil, Calls, Rests}
 use Rattle.ssa_ir.specs.Edges.{block_named, edge_number}
 use Rattle.ssa_ir.specs.Inputs.{Inputs, Answer, answer_of, inputs_of, junk_of, parameter_word, symbol_in, symbol_word}
 use Rattle.ssa_ir.specs.Lookups.{sig_of}
 use Rattle.ssa_ir.specs.Phis.{entered}
 use Rattle.ssa_ir.specs.Roles.{role}
+use Rattle.ssa_ir.specs.Conditions.{holds}
 use Rattle.ssa_ir.specs.Run.{Form, State, generic, with_word, computed, pointer, loaded_word, stored_memory, shown_of}
-use Rattle.ssa_ir.specs.Run.{with_answer, takes_answer, control_word, is_set, run_role, run_values, arrives, goes_to}
+use Rattle.ssa_ir.specs.Run.{with_answer, takes_answer, control_word, flags_of, is_set, run_role, run_values, arrives}
+use Rattle.ssa_ir.specs.Run.{goes_to}
 use Rattle.ssa_ir.specs.Run.{leaves, run_control, run_block, to_counted, turns, begun, run_from, run}
 use Rattle.ssa_ir.specs.Showing.{call_then}
 use Rattle.ssa_ir.specs.Widths.{kept}
@@ -71,6 +73,7 @@ module _ (more : List Answer) where
       → Holds (run_role form inputs block v r s go)
       (run_role form (with_more inputs more) block v r (state_with s more) longer)
   role_holds form inputs block v Computes s go longer h = h (with_word s v.id.0 (computed v s.words))
+  role_holds form inputs block v Compares s go longer h = h (with_word s v.id.0 (computed v s.words))
   role_holds form inputs block v TakesParameter s go longer h =
       h (with_word s v.id.0 (kept form.whole v.ty (parameter_word inputs v.aux)))
   role_holds form inputs block v TakesAddress s go longer h =
@@ -84,7 +87,6 @@ module _ (more : List Answer) where
       (takes_answer form block v (state_with s more) (s.answers ++ more) longer)
       (answer_holds form block v s s.answers go longer h)
   role_holds form inputs block v Rests s go longer h = h s
-  role_holds form inputs block v NotBuilt s go longer h = λ _. refl
 
   values_hold : (form : Form) (inputs : Inputs) (block values : List Value) (s : State) (go longer : State → Shown)
       → HoldsFrom go longer
@@ -118,7 +120,9 @@ module _ (more : List Answer) where
       (cond (is_set (control_word s.words b.control)) 0 1) s h
   control_holds form f go longer b Ret s h = λ _. refl
   control_holds form f go longer b Exit s h = λ _. refl
-  control_holds form f go longer b (Cond c) s h = λ _. refl
+  control_holds form f go longer b (Cond c) s h =
+      leaves_holds f go longer b
+      (cond (holds c (flags_of (control_word s.words b.control))) 0 1) s h
   control_holds form f go longer b Bit s h =
       leaves_holds f go longer b
       (cond (is_set (control_word s.words b.control)) 0 1) s h

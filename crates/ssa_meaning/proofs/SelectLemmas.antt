@@ -1,6 +1,6 @@
 -- The words of a call's selects, put by index, are those of the answer.
 use Rattle.std.proofs.Common.{◌≡◌, ◌≢◌, ℕ, ◌+◌, ◌<◌, ◌≤◌, Bool, true, false, cond, eqb, List, [], ◌∷◌, length, drop}
-use Rattle.std.proofs.Common.{filter, slice_get, slice_index_or, Option, None, Some, refl, sym, ap, subst, ◌∙◌}
+use Rattle.std.proofs.Common.{filter, slice_get, slice_index_or, Option, None, Some, refl, sym, ap, ◌∙◌}
 use Rattle.std.proofs.lemmas.Bool.{eqb-true}
 use Rattle.std.proofs.lemmas.List.{drop_all, drop_more}
 use Rattle.std.specs.Option.{option_to_list}
@@ -13,7 +13,7 @@ use Rattle.ssa_ir.specs.FirstOrder.{selects, put_by_number, by_number}
 use Rattle.ssa_ir.specs.Inputs.{Answer}
 use Rattle.ssa_ir.specs.Run.{put}
 use Rattle.block_order.specs.Items.{values_at}
-use Rattle.ssa_meaning.specs.Puts.{puts, select_word_of}
+use Rattle.ssa_meaning.specs.tables.Puts.{puts, select_word_of}
 use Rattle.block_order.specs.Apart.{IsApart, AreApart}
 use Rattle.ssa_meaning.proofs.TableLemmas.{selects_answered}
 

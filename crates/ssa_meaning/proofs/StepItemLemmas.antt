@@ -1,10 +1,12 @@
 -- The selects of a call rest, an item is its value, and items come one after the other.
 use Rattle.std.proofs.Common.{◌≡◌, ◌+◌, ℕ, suc, Bool, true, false, cond, ◌&&◌, List, [], ◌∷◌, ◌++◌, filter, drop}
-use Rattle.std.proofs.Common.{slice_get, Some, refl, ap, ◌∙◌, arith}
+use Rattle.std.proofs.Common.{◌<◌, length, get_or, slice_get, Option, Some, refl, subst, ap, ◌∙◌, arith}
+use Rattle.std.proofs.lemmas.Option.{slice_get_read}
 use Rattle.std.specs.Prelude.{int_lt}
 use Rattle.std.specs.List.{flat_map, list_any, cons_option}
 use Rattle.gossa_base.specs.declared.ids.ValueId.{ValueId}
 use Rattle.ssa_ir.specs.declared.case.CallShown.{CallShown}
+use Rattle.ssa_ir.specs.declared.case.End.{End}
 use Rattle.ssa_ir.specs.declared.case.Shown.{Shown}
 use Rattle.ssa_ir.specs.declared.func.Value.{Value}
 use Rattle.ssa_ir.specs.declared.op.Op.{Op}
@@ -17,7 +19,7 @@ use Rattle.ssa_ir.specs.Roles.{role}
 use Rattle.ssa_ir.specs.Run.{Form, State, run_role, run_values}
 use Rattle.block_order.specs.declared.order.Item.{Item}
 use Rattle.block_order.specs.Items.{values_at, item_values}
-use Rattle.ssa_meaning.specs.Ran.{behind, Next, next_shown, Ran}
+use Rattle.ssa_meaning.specs.tables.Ran.{behind, Next, next_of, next_shown, Ran}
 use Rattle.ssa_meaning.proofs.RanLemmas.{values_append}
 use Rattle.ssa_meaning.proofs.StepLemmas.{drop_at_item}
 
@@ -105,3 +107,16 @@ item_then form inputs block items n item s t before after next go at part =
     (drop m items)) s go)) more
     ∙ ap (behind before) (values_append form inputs block (item_values block item) rest s go)
     ∙ part (λ u. run_values form inputs block rest u go)
+
+-- the same, by the end that running the item answered
+pub item_then_by : (form : Form) (inputs : Inputs) (block : List Value) (items : List Item) (n : ℕ) (item : Item)
+    (s t : State) (before after : List CallShown) (got over : Option End) (go : State → Shown)
+    → n < length items → item ≡ get_or items n item → got ≡ over
+    → Ran (run_values form inputs block (item_values block item) s) before after (next_of got) t
+    → behind before (run_values form inputs block (flat_map (item_values block) (drop n items)) s go)
+    ≡ behind after (next_shown (next_of over) t (λ u. run_values form inputs block
+    (flat_map (item_values block) (drop (n + 1) items)) u go))
+item_then_by form inputs block items n item s t before after got over go within is same part =
+    item_then form inputs block items n item s t before after (next_of over) go
+    (slice_get_read items (length items) n item refl within is)
+    (subst (λ o. Ran (run_values form inputs block (item_values block item) s) before after (next_of o) t) same part)

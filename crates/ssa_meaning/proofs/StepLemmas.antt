@@ -19,7 +19,7 @@ use Rattle.ssa_ir.specs.Roles.{role}
 use Rattle.ssa_ir.specs.Inputs.{Inputs, Answer}
 use Rattle.ssa_ir.specs.Run.{Form, State, operand, run_role, shown_of, with_answer, takes_answer}
 use Rattle.ssa_ir.specs.Showing.{words_at}
-use Rattle.ssa_meaning.specs.Ran.{behind, Next, GoesOn, Ran}
+use Rattle.ssa_meaning.specs.tables.Ran.{behind, Next, GoesOn, Ran}
 use Rattle.ssa_meaning.proofs.RanLemmas.{behind_call}
 
 -- an argument that is there has its word, and an absent one 0

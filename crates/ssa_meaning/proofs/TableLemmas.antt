@@ -14,7 +14,7 @@ use Rattle.ssa_ir.specs.Lookups.{value_named}
 use Rattle.ssa_ir.specs.Phis.{source_by_op, source_of, entered}
 use Rattle.ssa_ir.specs.Run.{put}
 use Rattle.ssa_ir.specs.Widths.{kept}
-use Rattle.ssa_meaning.specs.Puts.{puts, phi_word}
+use Rattle.ssa_meaning.specs.tables.Puts.{puts, phi_word}
 use Rattle.block_order.specs.Apart.{IsApart, AreApart}
 
 -- the word of a value that was found, where it passes a test

@@ -12,7 +12,7 @@ use Rattle.ssa_ir.specs.declared.func.Block.{Block}
 use Rattle.ssa_ir.specs.declared.func.Func.{Func}
 use Rattle.ssa_ir.specs.declared.func.Value.{Value}
 use Rattle.ssa_ir.specs.declared.op.Op.{Op}
-use Rattle.ssa_ir.specs.declared.op.Op.TheVariants.{Addr, StaticLECall}
+use Rattle.ssa_ir.specs.declared.op.Op.TheVariants.{Addr, Arm64CALLstatic, Arm64MOVDaddr, StaticLECall}
 use Rattle.ssa_ir.specs.FirstOrder.{first_order}
 use Rattle.ssa_ir.specs.Inputs.{Inputs}
 use Rattle.ssa_ir.specs.Lookups.{values_of}
@@ -22,11 +22,12 @@ use Rattle.ssa_ir.specs.Phis.{entered}
 use Rattle.ssa_ir.specs.Run.{Callees, Form, State, generic, run_values, run_control, run_block, to_counted, turns}
 use Rattle.ssa_ir.specs.Showing.{ends}
 use Rattle.ssa_ir.specs.WellFormed.{HasItsSymbol, WellFormedValue, WellFormedFunc}
-use Rattle.ssa_meaning.specs.declared.control.Onward.TheVariants.{Enters, Ended}
+use Rattle.ssa_meaning.specs.declared.control.Onward.{Onward}
+use Rattle.ssa_meaning.specs.declared.control.Onward.TheVariants.{Enters}
 use Rattle.ssa_meaning.specs.declared.ready.Way.{Way}
-use Rattle.ssa_meaning.specs.Onward.{Further, enters, Turned}
-use Rattle.ssa_meaning.specs.Ran.{behind, next_shown, next_of, Ran}
-use Rattle.ssa_meaning.specs.Runnable.{names_symbol, HasItsName, IsRunnable}
+use Rattle.ssa_meaning.specs.tables.Onward.{onward_shown, Further, enters, Turned}
+use Rattle.ssa_meaning.specs.tables.Ran.{behind, next_shown, next_of, Ran}
+use Rattle.ssa_meaning.specs.tables.Runnable.{names_symbol, HasItsName, IsRunnable}
 use Rattle.ssa_meaning.proofs.ApartLemmas.{are_apart, block_apart}
 
 -- what holds of all holds of the one at a place
@@ -64,6 +65,8 @@ named_op : (op : Op) (sym : Option (List ℕ)) → HasItsSymbol (row_of op).aux 
     → IsSome sym
 named_op StaticLECall sym h t = h
 named_op Addr sym h t = h
+named_op Arm64CALLstatic sym h t = h
+named_op Arm64MOVDaddr sym h t = h
 named_op _ sym h t = absurd (cc)
 
 has_its_name : (v : Value) → WellFormedValue v → HasItsName v
@@ -88,33 +91,6 @@ counted form inputs f go zero b edge s e = ap (λ c. cond c (ends Stuck) (go b e
 counted form inputs f go (suc k) b edge s e =
     ap (λ c. cond c (run_block form inputs f (to_counted form inputs f go k) b edge s) (go b edge s)) e
 
--- a turn was taken, and the rest are taken from the block that is entered
-pub turn_goes_on : (form : Form) (inputs : Inputs) (f : Func) (n : ℕ) (b next : Block) (edge : Option ℕ) (w : Way)
-    (s t : State)
-    (before after : List CallShown) → WellFormedFunc f → slice_get f.blocks w.block ≡ Some next
-    → Turned f (λ go. run_block form inputs f go b edge s) before after (Enters w) t
-    → behind before (turns form inputs f (suc n) b edge s) ≡ behind after (turns form inputs f n next (Some w.edge) t)
-turn_goes_on form inputs f n b next edge w s t before after wf at turned =
-    let go : Further = to_counted form inputs f (turns form inputs f n) (length f.blocks) in
-    turned go
-    ∙ ap (λ o. behind after (enters go w.edge t o)) at
-    ∙ ap (behind after)
-    (counted form inputs f (turns form inputs f n) (length f.blocks) next (Some w.edge) t
-    (all_at (λ c. c.id.split ≡ false) f.blocks w.block next wf.unsplit at))
-
--- a turn was the last
-pub turn_ends : (form : Form) (inputs : Inputs) (f : Func) (n : ℕ) (b : Block) (edge : Option ℕ) (e : End)
-    (s t : State)
-    (before after : List CallShown) → Turned f (λ go. run_block form inputs f go b edge s) before after (Ended e) t
-    → behind before (turns form inputs f (suc n) b edge s) ≡ behind after (ends e)
-turn_ends form inputs f n b edge e s t before after turned =
-    turned (to_counted form inputs f (turns form inputs f n) (length f.blocks))
-
--- the calls that were shown, and then an end
-pub shown_end : (calls : List CallShown) (e : End) → (let s : Shown = record { calls = calls; end = e } in s)
-    ≡ behind calls (ends e)
-shown_end calls e = ap (λ l. record { calls = l; end = e }) (sym (append-nil calls))
-
 -- one turn fewer is left
 pub one_fewer : (n i : ℕ) → i < n → n - i ≡ suc (n - (i + 1))
 one_fewer n i lt = omega (arith, lt)
@@ -124,6 +100,39 @@ pub item_there : {X : Type 0} (xs : List X) (i : ℕ) → i < length xs → (x :
 item_there [] i lt = absurd (omega (arith, lt))
 item_there (x ∷ xs) zero lt = (x, refl)
 item_there (x ∷ xs) (suc i) lt = item_there xs i (omega (arith, lt))
+
+-- what comes behind a turn: the blocks on split edges up to the next counted block, and the turns from there
+abbrev pub Later : Form → Inputs → Func → ℕ → Further
+Later form inputs f n = to_counted form inputs f (turns form inputs f n) (length f.blocks)
+
+-- a turn was taken
+pub turn_taken : (form : Form) (inputs : Inputs) (f : Func) (whole : Shown) (n i k : ℕ) (edge : Option ℕ) (s t : State)
+    (before after : List CallShown) (got o : Onward) → i < n → k < length f.blocks
+    → ((b : Block) → slice_get f.blocks k ≡ Some b → whole ≡ behind before (turns form inputs f (n - i) b edge s))
+    → ((b : Block) → slice_get f.blocks k ≡ Some b
+    → Turned f (λ go. run_block form inputs f go b edge s) before after got t)
+    → got ≡ o → whole ≡ behind after (onward_shown f o (Later form inputs f (n - (i + 1))) t)
+turn_taken form inputs f whole n i k edge s t before after got o fewer within ran turned same =
+    let here : (b : Block) × (slice_get f.blocks k ≡ Some b) = item_there f.blocks k within in
+    ran here.0 here.1 ∙ ap (λ m. behind before (turns form inputs f m here.0 edge s)) (one_fewer n i fewer)
+    ∙ subst (λ x. Turned f (λ go. run_block form inputs f go here.0 edge s) before after x t) same
+    (turned here.0 here.1) (Later form inputs f (n - (i + 1)))
+
+-- behind a turn that enters a counted block come the turns from there
+pub enters_next : (form : Form) (inputs : Inputs) (f : Func) (n : ℕ) (next : Block) (w : Way) (t : State)
+    (after : List CallShown) → WellFormedFunc f → slice_get f.blocks w.block ≡ Some next
+    → behind after (onward_shown f (Enters w) (Later form inputs f n) t)
+    ≡ behind after (turns form inputs f n next (Some w.edge) t)
+enters_next form inputs f n next w t after wf at =
+    ap (λ o. behind after (enters (Later form inputs f n) w.edge t o)) at
+    ∙ ap (behind after)
+    (counted form inputs f (turns form inputs f n) (length f.blocks) next (Some w.edge) t
+    (all_at (λ c. c.id.split ≡ false) f.blocks w.block next wf.unsplit at))
+
+-- the calls that were shown, and then an end
+pub shown_end : (calls : List CallShown) (e : End) → (let s : Shown = record { calls = calls; end = e } in s)
+    ≡ behind calls (ends e)
+shown_end calls e = ap (λ l. record { calls = l; end = e }) (sym (append-nil calls))
 
 -- a block was entered and its values were run: its control comes next, or the run is over
 pub block_ran : (callees : Callees) (inputs : Inputs) (f : Func) (b : Block) (edge : Option ℕ) (s m t : State)

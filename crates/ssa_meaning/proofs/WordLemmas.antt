@@ -1,5 +1,5 @@
 -- Tables of words: room for all values, and words put one after the other.
-use Rattle.std.proofs.Common.{◌≡◌, ℕ, zero, suc, ◌+◌, ◌<◌, ◌≤◌, List, [], ◌∷◌, length, take, drop, map, filter}
+use Rattle.std.proofs.Common.{◌≡◌, ℕ, suc, ◌+◌, ◌<◌, ◌≤◌, List, [], ◌∷◌, length, take, drop, map, filter}
 use Rattle.std.proofs.Common.{slice_index_or, Bool, true, false, cond, Some, All, refl, sym, ap, subst, ◌∙◌, arith}
 use Rattle.std.specs.List.{flat_map}
 use Rattle.std.proofs.lemmas.List.{take_all, drop_more}
@@ -10,10 +10,10 @@ use Rattle.ssa_ir.specs.declared.func.Value.{Value}
 use Rattle.ssa_ir.specs.OpKinds.{is_phi}
 use Rattle.ssa_ir.specs.Phis.{entered}
 use Rattle.ssa_ir.specs.Run.{put}
-use Rattle.ssa_meaning.specs.Puts.{puts, put_all, phi_pair, phi_word, select_word_of}
+use Rattle.ssa_meaning.specs.tables.Puts.{puts, put_all, phi_pair, phi_word}
 use Rattle.ssa_meaning.specs.declared.words.WordTable.{WordTable}
 use Rattle.block_order.specs.Apart.{AreApart}
-use Rattle.ssa_meaning.specs.Running.{words_of}
+use Rattle.ssa_meaning.specs.tables.Running.{words_of}
 use Rattle.ssa_meaning.proofs.TableLemmas.{phis_entered}
 
 -- a number above those of each block's values is above all

@@ -1,11 +1,3 @@
 pub mod CaseRun
-pub mod Given
-pub mod MemoryChanges
-pub mod Onward
-pub mod Puts
-pub mod Ran
-pub mod Ready
 pub mod RunLaws
-pub mod Runnable
-pub mod Running
-pub mod Symbols
+pub mod tables

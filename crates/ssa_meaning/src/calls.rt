@@ -9,11 +9,11 @@ ghost use Rattle.ssa_ir.specs.FirstOrder.{by_number, selects as is_select};
 ghost use Rattle.ssa_ir.specs.Inputs.{inputs_of};
 ghost use Rattle.ssa_ir.specs.Lookups.{sig_of};
 ghost use Rattle.ssa_ir.specs.Run.{generic, run_role, shown_of};
-ghost use Rattle.ssa_meaning.specs.Given.{IsGiven};
+ghost use Rattle.ssa_meaning.specs.tables.Given.{IsGiven};
 ghost use Rattle.block_order.specs.Items.{values_at};
-ghost use Rattle.ssa_meaning.specs.Ran.{Ran, next_of};
+ghost use Rattle.ssa_meaning.specs.tables.Ran.{Ran, next_of};
 ghost use Rattle.block_order.specs.Apart.{AreApart};
-ghost use Rattle.ssa_meaning.specs.Running.{room_of, state_of};
+ghost use Rattle.ssa_meaning.specs.tables.Running.{room_of, state_of};
 
 use crate::running::Running;
 use crate::step::Given;

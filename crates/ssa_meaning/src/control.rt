@@ -5,18 +5,22 @@ ghost use Rattle.gossa_base.specs.Memory.{changed};
 ghost use Rattle.ssa_ir.specs.declared.case.Case.{Case as IrCase};
 ghost use Rattle.ssa_ir.specs.declared.case.End.TheVariants.{Returned};
 ghost use Rattle.ssa_ir.specs.Calls.{words_before_memory};
+ghost use Rattle.ssa_ir.specs.Conditions.{holds as condition_holds};
 ghost use Rattle.ssa_ir.specs.Lookups.{value_named};
-ghost use Rattle.ssa_ir.specs.Run.{Callees, generic, is_set, control_word, controlling, result_words, run_control};
+ghost use Rattle.ssa_ir.specs.Run.{Callees, flags_of, generic, is_set, control_word, controlling, result_words};
+ghost use Rattle.ssa_ir.specs.Run.{run_control};
 ghost use Rattle.ssa_ir.specs.Showing.{words_at};
-ghost use Rattle.ssa_meaning.specs.MemoryChanges.{memory_of, since_of};
-ghost use Rattle.ssa_meaning.specs.Onward as onward;
-ghost use Rattle.ssa_meaning.specs.Ready.{IsReadyBlock};
-ghost use Rattle.ssa_meaning.specs.Running.{state_of, words_of};
+ghost use Rattle.ssa_meaning.specs.tables.MemoryChanges.{memory_of, since_of};
+ghost use Rattle.ssa_meaning.specs.tables.Onward as onward;
+ghost use Rattle.ssa_meaning.specs.tables.Ready.{IsReadyBlock};
+ghost use Rattle.ssa_meaning.specs.tables.Running.{state_of, words_of};
 
+use crate::operands::flags_of;
 use crate::ready::{ReadyBlock, Way};
 use crate::running::Running;
+use arm64_ops::holds;
 use gossa_base::{NoMemory, ValueId};
-use ssa_ir::{Block, End, Func, Kind, Value};
+use ssa_ir::{Block, CondCode, End, Func, Kind, Value};
 use std::alloc::Global;
 
 /// Behind a block: the way to the block that comes next, or the end of the run.
@@ -46,7 +50,17 @@ impl Running {
             Kind::If | Kind::Bit => Ok(along(ready, self.successor(block.control))),
             Kind::Ret => Ok(Onward::Ended(self.returned(alloc, func, block)?)),
             Kind::Exit => Ok(Onward::Ended(End::Exited(self.memory.changed(alloc)?))),
-            Kind::Cond(_) => Ok(Onward::Ended(End::Stuck)),
+            Kind::Cond(condition) => Ok(along(ready, self.branch(condition, block.control))),
+        }
+    }
+
+    // The word of a block's control.
+    fn control_word(&self, control: Option<ValueId>) -> u64
+        ensures { result ≡ control_word (words_of self.now.words) control }
+    {
+        match control {
+            Some(id) => self.words.word(id),
+            None => 0,
         }
     }
 
@@ -54,11 +68,23 @@ impl Running {
     fn successor(&self, control: Option<ValueId>) -> usize
         ensures { result ≡ (if is_set (control_word (words_of self.now.words) control) then 0 else 1) }
     {
-        let word = match control {
-            Some(id) => self.words.word(id),
-            None => 0,
-        };
-        if word % 2 == 1 { 0 } else { 1 }
+        if self.control_word(control) % 2 == 1 {
+            0
+        } else {
+            1
+        }
+    }
+
+    // The same where a condition on the control's flags decides.
+    fn branch(&self, condition: CondCode, control: Option<ValueId>) -> usize
+        ensures { result ≡ (if condition_holds condition
+            (flags_of (control_word (words_of self.now.words) control)) then 0 else 1) }
+    {
+        if holds(condition, flags_of(self.control_word(control))) {
+            0
+        } else {
+            1
+        }
     }
 
     // The end of a run that returns.

@@ -6,7 +6,7 @@ ghost use Rattle.ssa_ir.specs.Lookups.{sig_of};
 ghost use Rattle.ssa_ir.specs.Run.{generic, run};
 ghost use Rattle.ssa_ir.specs.WellFormed.{WellFormed, WellFormedFunc};
 ghost use Rattle.ssa_meaning.specs.CaseRun.{case_shown};
-ghost use Rattle.ssa_meaning.specs.Given.{IsGiven};
+ghost use Rattle.ssa_meaning.specs.tables.Given.{IsGiven};
 
 use crate::ready::ReadyFunc;
 use crate::running::Running;

@@ -4,7 +4,7 @@ ghost use Rattle.std.specs.Prelude.{◌≡◌, ◌≤◌, IfOk, OnOk};
 ghost use Rattle.std.specs.FinMap as finite;
 ghost use Rattle.gossa_base.specs.Memory.{byte_at, read_number, bytes_of, write_bytes, write_pieces, changed};
 ghost use Rattle.ssa_ir.specs.Inputs.{pieces_of};
-ghost use Rattle.ssa_meaning.specs.MemoryChanges.{memory_of, since_of};
+ghost use Rattle.ssa_meaning.specs.tables.MemoryChanges.{memory_of, since_of};
 
 use gossa_base::NoMemory;
 use ssa_ir::{Changed, Piece};

@@ -7,13 +7,13 @@ ghost use Rattle.ssa_ir.specs.Inputs.{inputs_of};
 ghost use Rattle.ssa_ir.specs.Inputs as inputs;
 ghost use Rattle.ssa_ir.specs.Run as run;
 ghost use Rattle.ssa_ir.specs.Showing.{words_at};
-ghost use Rattle.ssa_meaning.specs.Running.{words_of};
+ghost use Rattle.ssa_meaning.specs.tables.Running.{words_of};
 
 use crate::running::Running;
 use crate::widths::at_width;
 use arm64_ops::eval;
 use gossa_base::{NoMemory, ValueId};
-use ssa_ir::{Case, Scalar, Value, Words};
+use ssa_ir::{Case, Scalar, Takes, Value, Words, facts_of};
 use std::alloc::Global;
 
 impl Running {
@@ -35,7 +35,19 @@ impl Running {
         let a = self.operand(args, 0);
         let b = self.operand(args, 1);
         let c = self.operand(args, 2);
-        eval(value.op, value.aux, a, b, c, 0)
+        eval(value.op, value.aux, a, b, c, self.flags_read(value))
+    }
+
+    // The flags that a value reads: those of its last argument, where its op reads any.
+    fn flags_read(&self, value: &Value) -> u8
+        ensures { result ≡ run.flags_word value.now.op (words_of self.now.words) value.now.args }
+    {
+        match facts_of(value.op).takes {
+            Takes::WordsAndFlags(words) => {
+                flags_of(self.operand(value.args.as_slice(), usize::from(words)))
+            }
+            _ => 0,
+        }
     }
 
     /// The word of a value's first argument: the pointer of what loads, stores or checks.
@@ -72,6 +84,13 @@ impl Running {
         }
         Ok(words)
     }
+}
+
+/// The flags in a word: its low four bits.
+pub(crate) fn flags_of(word: u64) -> u8
+    ensures { result ≡ run.flags_of word }
+{
+    (word % 16) as u8
 }
 
 // A pointer and a number, modulo 2 to the 64.

@@ -6,7 +6,7 @@ ghost use Rattle.ssa_ir.specs.declared.func.Block.{Block as IrBlock};
 ghost use Rattle.ssa_ir.specs.Edges.{same_block, times_before, place_of_time};
 ghost use Rattle.ssa_ir.specs.WellFormed.{WellFormedFunc};
 ghost use Rattle.ssa_tables.specs.Blocks.{names_of};
-ghost use Rattle.ssa_meaning.specs.Ready.{LeadsTo, IsReadyBlock, IsReady};
+ghost use Rattle.ssa_meaning.specs.tables.Ready.{LeadsTo, IsReadyBlock, IsReady};
 ghost use Rattle.block_order.specs.Apart.{AreApart};
 
 use block_order::{Item, first_order_of};

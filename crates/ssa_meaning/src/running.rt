@@ -6,7 +6,7 @@ ghost use Rattle.ssa_ir.specs.declared.func.Value.{Value as IrValue};
 ghost use Rattle.ssa_ir.specs.Inputs.{inputs_of};
 ghost use Rattle.ssa_ir.specs.Lookups.{values_of};
 ghost use Rattle.ssa_ir.specs.Run.{begun as begun_with};
-ghost use Rattle.ssa_meaning.specs.Running.{room_of, state_of};
+ghost use Rattle.ssa_meaning.specs.tables.Running.{room_of, state_of};
 
 use crate::memory::RunMemory;
 use crate::words::WordTable;

@@ -4,26 +4,28 @@ ghost use Rattle.std.specs.Prelude.{◌≡◌, ◌<◌, List, [], IfOk, OnOk, Is
 ghost use Rattle.std.specs.List.{All};
 ghost use Rattle.ssa_ir.specs.declared.case.Case.{Case as IrCase};
 ghost use Rattle.ssa_ir.specs.declared.func.Value.{Value as IrValue};
-ghost use Rattle.ssa_ir.specs.declared.role.Role.TheVariants.{Loads, Stores, ChecksNil};
+ghost use Rattle.ssa_ir.specs.declared.role.Role.TheVariants.{ChecksNil};
+ghost use Rattle.ssa_ir.specs.Access as access;
 ghost use Rattle.ssa_ir.specs.FirstOrder.{first_order, followers_of};
 ghost use Rattle.ssa_ir.specs.Inputs.{Inputs, inputs_of, symbol_word as word_of_symbol};
 ghost use Rattle.ssa_ir.specs.Lookups.{sig_of};
+ghost use Rattle.ssa_ir.specs.OpFacts.{facts};
 ghost use Rattle.ssa_ir.specs.Roles.{role};
 ghost use Rattle.ssa_ir.specs.Run.{Form, generic, run_role, run_values, with_word, loaded_word, stored_memory};
-ghost use Rattle.ssa_meaning.specs.Given.{IsGiven};
+ghost use Rattle.ssa_meaning.specs.tables.Given.{IsGiven};
 ghost use Rattle.block_order.specs.Items.{AreInFirstOrder, IsItem, item_values, values_at};
-ghost use Rattle.ssa_meaning.specs.Ran.{Ran, next_of};
-ghost use Rattle.ssa_meaning.specs.Runnable.{HasItsName, IsRunnable};
+ghost use Rattle.ssa_meaning.specs.tables.Ran.{Ran, next_of};
+ghost use Rattle.ssa_meaning.specs.tables.Runnable.{HasItsName, IsRunnable};
 ghost use Rattle.block_order.specs.Apart.{AreApart};
-ghost use Rattle.ssa_meaning.specs.Running.{room_of, state_of};
+ghost use Rattle.ssa_meaning.specs.tables.Running.{room_of, state_of};
 
 use crate::operands::parameter_word;
 use crate::running::Running;
 use crate::symbols::SymbolTable;
-use crate::widths::{element_bytes, kept, type_bytes};
+use crate::widths::{element_bytes, kept};
 use block_order::Item;
-use gossa_base::NoMemory;
-use ssa_ir::{Block, Case, End, Role, SsaUnit, Value, role_of};
+use gossa_base::{NoMemory, sext};
+use ssa_ir::{Access, Block, Case, End, Role, SsaUnit, Value, facts_of, role_of};
 use ssa_tables::SignatureTable;
 use std::alloc::Global;
 
@@ -106,7 +108,7 @@ impl Running {
         ensures room { OnOk result (room_of self.new.words ≡ room_of self.old.words) }
     {
         match role_of(value.op) {
-            Role::Computes => {
+            Role::Computes | Role::Compares => {
                 let word = self.computed(value);
                 self.put(value, word);
                 Ok(None)
@@ -133,7 +135,6 @@ impl Running {
             Role::ChecksNil => self.check_nil(alloc, value),
             Role::Calls => self.run_call(alloc, given, values, value, selects),
             Role::Rests => Ok(None),
-            Role::NotBuilt => Ok(Some(End::Stuck)),
         }
     }
 
@@ -149,15 +150,19 @@ impl Running {
 
     // The word of a load.
     fn loaded(&self, value: &Value) -> u64
-        requires { role value.now.op ≡ Loads }
         ensures { (c : IrCase) → result ≡ loaded_word value.now (state_of c self.now) }
     {
-        self.memory.load(self.address(value), type_bytes(&value.ty))
+        let address = self.address(value);
+        match facts_of(value.op).access {
+            Access::NoBytes => 0,
+            Access::OfType => self.memory.load(address, value.ty.bytes()),
+            Access::Unsigned(width) => self.memory.load(address, width.bytes()),
+            Access::Signed(width) => sext(width.bits(), self.memory.load(address, width.bytes())),
+        }
     }
 
     // Makes a store.
     fn store(&mut self, value: &Value) -> Result<(), NoMemory>
-        requires { role value.now.op ≡ Stores }
         ensures state { OnOk result ((c : IrCase) → state_of c self.new
             ≡ record (state_of c self.old) { memory = stored_memory value.now (state_of c self.old) }) }
         ensures calls { OnOk result (self.new.calls ≡ self.old.calls) }
@@ -165,7 +170,7 @@ impl Running {
     {
         let word = self.operand(value.args.as_slice(), 1);
         let address = self.address(value);
-        self.memory.store(address, word, element_bytes(value.elem))
+        self.memory.store(address, word, written(value))
     }
 
     // Traps where the pointer is 0, and gives it to the check else.
@@ -182,6 +187,17 @@ impl Running {
         }
         self.put(value, pointer);
         Ok(None)
+    }
+}
+
+// How many bytes a store writes.
+fn written(value: &Value) -> u32
+    ensures { result ≡ access.written (facts value.now.op).access value.now.elem }
+{
+    match facts_of(value.op).access {
+        Access::NoBytes => 0,
+        Access::OfType => element_bytes(value.elem),
+        Access::Unsigned(width) | Access::Signed(width) => width.bytes(),
     }
 }
 

@@ -4,7 +4,7 @@ ghost use Rattle.std.specs.Prelude.{◌≡◌, List, ℕ, nat_eq, IfOk, OnOk, un
 ghost use Rattle.std.specs.Cmp.Lexicographic.{pointwise};
 ghost use Rattle.indexmap.specs.IndexMap.{get};
 ghost use Rattle.ssa_ir.specs.Inputs.{symbol_in};
-ghost use Rattle.ssa_meaning.specs.Symbols as spec;
+ghost use Rattle.ssa_meaning.specs.tables.Symbols as spec;
 
 use gossa_base::{Name, NoMemory};
 use indexmap::IndexMap;

@@ -10,11 +10,11 @@ ghost use Rattle.ssa_ir.specs.Lookups.{sig_of, values_of};
 ghost use Rattle.ssa_ir.specs.Phis.{entered};
 ghost use Rattle.ssa_ir.specs.Run.{generic, run, run_block, begun};
 ghost use Rattle.ssa_ir.specs.WellFormed.{WellFormedFunc};
-ghost use Rattle.ssa_meaning.specs.Given.{IsGiven};
-ghost use Rattle.ssa_meaning.specs.Onward.{IsWithin, Turned};
-ghost use Rattle.ssa_meaning.specs.Ready.{IsReady, IsReadyBlock};
-ghost use Rattle.ssa_meaning.specs.Runnable.{IsRunnable};
-ghost use Rattle.ssa_meaning.specs.Running.{room_of, state_of, words_of};
+ghost use Rattle.ssa_meaning.specs.tables.Given.{IsGiven};
+ghost use Rattle.ssa_meaning.specs.tables.Onward.{IsWithin, Turned};
+ghost use Rattle.ssa_meaning.specs.tables.Ready.{IsReady, IsReadyBlock};
+ghost use Rattle.ssa_meaning.specs.tables.Runnable.{IsRunnable};
+ghost use Rattle.ssa_meaning.specs.tables.Running.{room_of, state_of, words_of};
 
 use crate::control::Onward;
 use crate::ready::{ReadyBlock, ReadyFunc};

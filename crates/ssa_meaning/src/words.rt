@@ -14,9 +14,9 @@ ghost use Rattle.ssa_ir.specs.Lookups.{values_of};
 ghost use Rattle.ssa_ir.specs.Phis.{entered};
 ghost use Rattle.ssa_ir.specs.Run.{put};
 ghost use Rattle.block_order.specs.Items.{values_at};
-ghost use Rattle.ssa_meaning.specs.Puts.{puts, put_all, phi_pair, select_word_of};
+ghost use Rattle.ssa_meaning.specs.tables.Puts.{puts, put_all, phi_pair, select_word_of};
 ghost use Rattle.block_order.specs.Apart.{AreApart};
-ghost use Rattle.ssa_meaning.specs.Running.{words_of, room_of};
+ghost use Rattle.ssa_meaning.specs.tables.Running.{words_of, room_of};
 
 use crate::widths::kept;
 use gossa_base::{NoMemory, ValueId};

@@ -1,15 +1,12 @@
 -- The table of values: entries of different numbers are put in as they stand, and a number's place leads to its value.
 use Rattle.std.proofs.Common.{◌≡◌, ◌≢◌, ℕ, zero, suc, ◌<◌, ◌++◌, Bool, true, false, cond, eqb, List, [], ◌∷◌, length}
-use Rattle.std.proofs.Common.{map, drop, get_or, slice_get, find, Option, None, Some, Bor, refl, sym, ap, subst, ◌∙◌}
+use Rattle.std.proofs.Common.{map, drop, get_or, slice_get, find, Option, None, Some, refl, sym, ap, subst, ◌∙◌}
 use Rattle.std.proofs.Common.{append_assoc, arith}
 use Rattle.std.specs.List.{flat_map}
 use Rattle.std.specs.Map.{keys_of, lookup}
-use Rattle.std.specs.Option.{option_copied}
-use Rattle.std.specs.Slice.{IsItemAt}
 use Rattle.std.proofs.lemmas.Bool.{eqb-true}
 use Rattle.std.proofs.lemmas.Bool.Decides.{nat_tests}
 use Rattle.std.proofs.lemmas.List.{append-nil, map-append}
-use Rattle.std.proofs.lemmas.Option.{slice_get_past, slice_get-get_or}
 use Rattle.gossa_base.specs.declared.ids.ValueId.{ValueId}
 use Rattle.indexmap.specs.IndexMap.{insert_entry, insert_all}
 use Rattle.ssa_ir.specs.declared.func.Block.{Block}

@@ -1,3 +1,5 @@
 pub mod Blocks
+pub mod PassedRows
 pub mod Places
 pub mod SignatureTable
+pub mod tables

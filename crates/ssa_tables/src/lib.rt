@@ -1,6 +1,7 @@
 //! Tables of a function and of a unit: values by number, blocks by name, predecessors by index, signatures by name.
 //!
-//! [`FuncTables`] is a function with all tables that it has; [`SignatureTable`] has the names of a unit's signatures.
+//! [`FuncTables`] is a function with all tables that it has; [`SignatureTable`] has the names of a unit's signatures;
+//! [`PassedRows`] says for each block which blocks every path to it passes.
 //!
 //! Method. Each table is made once, in a time linear in what it is of, and looked up in constant time on average. What
 //! it says is what the first that fits says (`specs/Lookups.antt` and `specs/Edges.antt` of `ssa_ir`).
@@ -16,11 +17,13 @@
 pub mod blocks;
 pub mod flow;
 pub mod func_tables;
+pub mod passed;
 pub mod signatures;
 pub mod values;
 
 pub use blocks::BlockTable;
 pub use flow::Flow;
 pub use func_tables::FuncTables;
+pub use passed::PassedRows;
 pub use signatures::SignatureTable;
 pub use values::{Place, ValueTable};

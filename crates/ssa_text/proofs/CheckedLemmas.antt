@@ -3,6 +3,7 @@ use Rattle.std.proofs.Common.{◌≡◌, ℕ, Bool, false, true, List, Option, N
 use Rattle.ssa_lines.specs.Forms.{form_of}
 use Rattle.ssa_lines.specs.Words.{words_of}
 use Rattle.ssa_lines.specs.declared.forms.Form.{Form}
+use Rattle.ssa_lines.specs.declared.refusal.TextFault.{TextFault}
 use Rattle.ssa_lines.specs.declared.refusal.TextRefusal.{TextRefusal}
 use Rattle.ssa_lines.specs.ReadsAs.{RefusesAs}
 use Rattle.ssa_text.specs.Reading.{Read, fault_of, in_place, is_twice, behind, then_read, form_or_fault, checked_form}
@@ -11,12 +12,12 @@ use Rattle.ssa_lines.proofs.RefusalLemmas.{refuses_so}
 use Rattle.ssa_text.proofs.FormTests.{Passes, passes, form_has_no_fault}
 
 -- a fault of a line is what is read behind it
-passed_on : (fault : Option TextRefusal) (form : Form) (next : Read) (refusal : TextRefusal)
-    → form_or_fault fault form ≡ Err refusal → then_read fault next Ok ≡ Err refusal
-passed_on (Some fault) form next refusal e = let same : fault ≡ refusal = cc in ap Err same
-passed_on None form next refusal e = cc
+passed_on : (fault : Option TextFault) (form : Form) (next : Read) (first : TextFault)
+    → form_or_fault fault form ≡ Err first → then_read fault next Ok ≡ Err first
+passed_on (Some fault) form next first e = let same : fault ≡ first = cc in ap Err same
+passed_on None form next first e = cc
 
-no_fault : (fault : Option TextRefusal) (form given : Form) → form_or_fault fault form ≡ Ok given
+no_fault : (fault : Option TextFault) (form given : Form) → form_or_fault fault form ≡ Ok given
     → (fault ≡ None) × (given ≡ form)
 no_fault (Some fault) form given e = cc
 no_fault None form given e = (refl, cc)

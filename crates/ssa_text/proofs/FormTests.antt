@@ -9,9 +9,9 @@ use Rattle.ssa_lines.specs.Words.{words_of}
 use Rattle.ssa_lines.specs.declared.forms.Form.{Form}
 use Rattle.ssa_lines.specs.declared.refusal.LimitKind.{LimitKind}
 use Rattle.ssa_lines.specs.declared.refusal.LimitKind.TheVariants.{LineBytes}
-use Rattle.ssa_lines.specs.declared.refusal.TextRefusal.{TextRefusal}
-use Rattle.ssa_lines.specs.declared.refusal.TextRefusal.TheVariants.{BadByte, BadLine, UnknownOp, NumberTooLarge}
-use Rattle.ssa_lines.specs.declared.refusal.TextRefusal.TheVariants.{Duplicate, Limit}
+use Rattle.ssa_lines.specs.declared.refusal.TextFault.{TextFault}
+use Rattle.ssa_lines.specs.declared.refusal.TextFault.TheVariants.{BadByte, BadLine, UnknownOp, NumberTooLarge}
+use Rattle.ssa_lines.specs.declared.refusal.TextFault.TheVariants.{Duplicate, Limit}
 use Rattle.ssa_text.specs.Reading.{Read, in_place, leaves_open, is_unknown, is_too_large, is_twice, limit_passed}
 use Rattle.ssa_text.specs.Reading.{limit_of, fault_of_form, fault_of}
 use Rattle.ssa_lines.proofs.FormFacts.{Spells}
@@ -29,7 +29,7 @@ abbrev pub Passes : Read → Form → Type 0
 Passes r form = AllPass (in_place r form) (is_unknown form) (is_too_large form) (is_twice r form) (limit_passed r form)
 
 -- the first fault, by what the tests answer
-abbrev first_fault : ℕ → (placed ends unknown large twice : Bool) → Option LimitKind → Option TextRefusal
+abbrev first_fault : ℕ → (placed ends unknown large twice : Bool) → Option LimitKind → Option TextFault
 first_fault line placed ends unknown large twice limit =
     if not placed || ends then Some (BadLine line)
     else if unknown then Some (UnknownOp line)
@@ -63,17 +63,17 @@ no_form_fault r line last form h e i =
     first_fault line (h.in_its_place i) (e i) (h.is_known i) (h.is_small i) (h.is_new i) (h.is_within i)
 
 -- the first fault of a line, by what the tests of its bytes answer
-abbrev first_of_line : ℕ → (long allowed : Bool) → Option TextRefusal → Option TextRefusal
+abbrev first_of_line : ℕ → (long allowed : Bool) → Option TextFault → Option TextFault
 first_of_line line long allowed fault =
     if long then Some (Limit LineBytes line) else if not allowed then Some (BadByte line) else fault
 
-within : (line : ℕ) (long allowed : Bool) (fault : Option TextRefusal) →
+within : (line : ℕ) (long allowed : Bool) (fault : Option TextFault) →
     first_of_line line long allowed fault ≡ None → fault ≡ None
 within line true allowed fault h = cc
 within line false false fault h = cc
 within line false true fault h = h
 
-with_other : (line : ℕ) (long allowed : Bool) (fault other : Option TextRefusal) → (fault ≡ None → other ≡ None) →
+with_other : (line : ℕ) (long allowed : Bool) (fault other : Option TextFault) → (fault ≡ None → other ≡ None) →
     first_of_line line long allowed fault ≡ None → first_of_line line long allowed other ≡ None
 with_other line true allowed fault other none h = cc
 with_other line false false fault other none h = cc
@@ -83,7 +83,7 @@ with_other line false true fault other none h = none h
 pub form_has_no_fault : (r : Read) (line : ℕ) (last : Bool) (bytes : List ℕ) → fault_of r line last bytes ≡ None →
     fault_of_form r line last (form_of (words_of bytes)) ≡ None
 form_has_no_fault r line last bytes h =
-    let fault : Option TextRefusal = fault_of_form r line last (form_of (words_of bytes)) in
+    let fault : Option TextFault = fault_of_form r line last (form_of (words_of bytes)) in
     within line (nat_lt MAX_LINE_BYTES (length bytes)) (is_allowed bytes) fault h
 
 -- a line without a fault has none where other lines stand behind it

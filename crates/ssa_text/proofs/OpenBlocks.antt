@@ -11,19 +11,19 @@ use Rattle.ssa_lines.specs.declared.forms.Form.TheVariants.{Block as BlockForm, 
 use Rattle.ssa_lines.specs.declared.forms.Form.TheVariants.{Control as ControlForm, Bad}
 use Rattle.ssa_text.specs.declared.partial.OpenBlock.{OpenBlock}
 use Rattle.ssa_text.specs.declared.partial.OpenFunc.{OpenFunc}
-use Rattle.ssa_lines.specs.declared.refusal.TextRefusal.{TextRefusal}
+use Rattle.ssa_lines.specs.declared.refusal.TextFault.{TextFault}
 use Rattle.ssa_text.specs.Reading.{Read, has_open_block, leaves_open, change, begin_block, add_value, value_behind}
 use Rattle.ssa_text.specs.Reading.{end_open, end_block, behind, then_read, is_last, read_from}
 use Rattle.ssa_text.proofs.FormTests.{Passes}
 
 -- a line that was read has no fault, and the lines behind it were read
-pub line_was_read : (fault : Option TextRefusal) (r end : Read) (go : Read → Result Read TextRefusal) →
+pub line_was_read : (fault : Option TextFault) (r end : Read) (go : Read → Result Read TextFault) →
     then_read fault r go ≡ Ok end → (fault ≡ None) × (go r ≡ Ok end)
 line_was_read None r end go h = (refl, h)
 line_was_read (Some fault) r end go h = cc
 
 -- behind no lines stands what was read before them
-pub same_read : (r s : Read) → (◌≡◌ {A = Result Read TextRefusal} (Ok r) (Ok s)) → r ≡ s
+pub same_read : (r s : Read) → (◌≡◌ {A = Result Read TextFault} (Ok r) (Ok s)) → r ≡ s
 same_read r s h = cc
 
 -- a change that begins a block

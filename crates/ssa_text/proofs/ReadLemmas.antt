@@ -5,6 +5,7 @@ use Rattle.std.proofs.lemmas.Bool.{ne_eqb}
 use Rattle.ssa_lines.specs.Forms.{form_of}
 use Rattle.ssa_lines.specs.Lines.{lines_of}
 use Rattle.ssa_lines.specs.Words.{words_of}
+use Rattle.ssa_lines.specs.declared.refusal.TextFault.{TextFault}
 use Rattle.ssa_lines.specs.declared.refusal.TextRefusal.{TextRefusal}
 use Rattle.ssa_text.specs.CaseSplit.{is_case_line, through_case}
 use Rattle.ssa_text.specs.Reading.{Read, nothing, has_open_block, fault_of, behind, then_read, read_line, read_from}
@@ -15,15 +16,15 @@ use Rattle.ssa_text.proofs.SplitLemmas.{few_lines_of}
 use Rattle.ssa_text.proofs.TakenLemmas.{closed_when_read}
 
 -- a line and then the others
-one_line : (fault : Option TextRefusal) (next : Read) (go : Read → Result Read TextRefusal) (read : Read)
+one_line : (fault : Option TextFault) (next : Read) (go : Read → Result Read TextFault) (read : Read)
     → then_read fault next Ok ≡ Ok read → then_read fault next go ≡ go read
 one_line (Some fault) next go read e = cc
 one_line None next go read e = let same : next ≡ read = cc in ap go same
 
-one_fault : (fault : Option TextRefusal) (next : Read) (go : Read → Result Read TextRefusal) (refusal : TextRefusal)
-    → then_read fault next Ok ≡ Err refusal → then_read fault next go ≡ Err refusal
-one_fault (Some fault) next go refusal e = e
-one_fault None next go refusal e = cc
+one_fault : (fault : Option TextFault) (next : Read) (go : Read → Result Read TextFault) (first : TextFault)
+    → then_read fault next Ok ≡ Err first → then_read fault next go ≡ Err first
+one_fault (Some fault) next go first e = e
+one_fault None next go first e = cc
 
 -- through the first case there are no lines exactly where there are none at all
 last_through : (lines : List (List ℕ)) → (length lines == 0) ≡ is_last (through_case lines)
@@ -93,7 +94,7 @@ module _ (text : List ℕ) (r : Read) (number : ℕ) (lines left : List (List �
   case_reached next e there =
       sym (line_read next e) ∙ ap (λ b. read_from next (number + 1) (left_behind b left)) there
 
-  fault_stays : (fault : TextRefusal) → read_line r number last bytes ≡ Err fault
+  fault_stays : (fault : TextFault) → read_line r number last bytes ≡ Err fault
       → read_from nothing 1 (through_case (lines_of text)) ≡ Err fault
   fault_stays fault e =
       sym whole_is

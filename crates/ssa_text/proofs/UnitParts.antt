@@ -4,7 +4,7 @@ use Rattle.std.specs.Option.{option_or}
 use Rattle.ssa_ir.specs.declared.case.Case.{Case}
 use Rattle.ssa_ir.specs.declared.func.SsaUnit.{SsaUnit}
 use Rattle.ssa_lines.specs.Lines.{lines_of}
-use Rattle.ssa_lines.specs.declared.refusal.TextRefusal.{TextRefusal}
+use Rattle.ssa_lines.specs.declared.refusal.TextFault.{TextFault}
 use Rattle.case_text.specs.CaseReading.{CasesRead, no_cases, with_case, read_from as read_cases_from}
 use Rattle.ssa_text.specs.CaseSplit.{case_line, from_case, through_case}
 use Rattle.ssa_text.specs.Reading.{Read, nothing, has_open_block, unknown_line, read_from, unit_or_unknown}
@@ -41,7 +41,7 @@ unit_parts text u h = by_unit (read_from nothing 1 lines) refl h
     case_lines : List (List ℕ)
     case_lines = from_case (lines_of text)
 
-    by_cases : (end : Read) → read_from nothing 1 lines ≡ Ok end → (o : Result CasesRead TextRefusal) →
+    by_cases : (end : Read) → read_from nothing 1 lines ≡ Ok end → (o : Result CasesRead TextFault) →
         read_cases_from (function_names end) no_cases (case_line text) case_lines ≡ o → with_cases end o ≡ Ok u →
         UnitParts text u
     by_cases end read (Err fault) same h = cc
@@ -59,7 +59,7 @@ unit_parts text u h = by_unit (read_from nothing 1 lines) refl h
           unit_is = unit.1;
         }
 
-    by_unit : (o : Result Read TextRefusal) → read_from nothing 1 lines ≡ o →
+    by_unit : (o : Result Read TextFault) → read_from nothing 1 lines ≡ o →
         cases_behind o (case_line text) case_lines ≡ Ok u → UnitParts text u
     by_unit (Err fault) same h = cc
     by_unit (Ok end) same h =

@@ -4,6 +4,7 @@ use Rattle.std.specs.Option.{option_or}
 use Rattle.ssa_ir.specs.declared.func.SsaUnit.{SsaUnit}
 use Rattle.ssa_lines.specs.Lines.{lines_of}
 use Rattle.ssa_lines.specs.ReadsAs.{ReadsAs, RefusesAs}
+use Rattle.ssa_lines.specs.declared.refusal.TextFault.{TextFault}
 use Rattle.ssa_lines.specs.declared.refusal.TextRefusal.{TextRefusal}
 use Rattle.ssa_lines.proofs.RefusalLemmas.{refuses_so}
 use Rattle.case_text.specs.declared.read.CasePart.{CasePart}
@@ -25,7 +26,7 @@ cases_there text part names given offset first answer at line cut same read =
     subst (ReadsAs answer) (λ i. case_part (read_cases_from (same i) no_cases (line i) (lines i))) read
 
 module _ (text : List ℕ) where
-  abbrev cases_of : Read → Result CasesRead TextRefusal
+  abbrev cases_of : Read → Result CasesRead TextFault
   cases_of r = read_cases_from (function_names r) no_cases (case_line text) (from_case (lines_of text))
 
   -- what refuses the lines in front of the cases refuses the text
@@ -39,7 +40,7 @@ module _ (text : List ℕ) where
     with_unit : read_unit text ≡ with_cases r (cases_of r)
     with_unit = ap (λ o. cases_behind o (case_line text) (from_case (lines_of text))) read
 
-    fault_stays : (o : Result CasesRead TextRefusal) (fault : TextRefusal) → case_part o ≡ Err fault
+    fault_stays : (o : Result CasesRead TextFault) (fault : TextFault) → case_part o ≡ Err fault
         → with_cases r o ≡ Err fault
     fault_stays (Ok c) fault e = cc
     fault_stays (Err other) fault e = let same : other ≡ fault = cc in ap Err same
@@ -51,12 +52,12 @@ module _ (text : List ℕ) where
         refuses_so CasePart SsaUnit (case_part (cases_of r)) (read_unit text)
         (λ fault e. with_unit ∙ fault_stays (cases_of r) fault e)
 
-    abbrev unit_of_part : CasePart → Result SsaUnit TextRefusal
+    abbrev unit_of_part : CasePart → Result SsaUnit TextFault
     unit_of_part part =
         unit_or_unknown (record { sigs = r.sigs; funcs = with_whole r.funcs r.func; cases = part.cases })
         (option_or (unknown_line r) part.unknown)
 
-    part_stays : (o : Result CasesRead TextRefusal) (part : CasePart) → case_part o ≡ Ok part
+    part_stays : (o : Result CasesRead TextFault) (part : CasePart) → case_part o ≡ Ok part
         → with_cases r o ≡ unit_of_part part
     part_stays (Ok c) part e = let same : part_of c ≡ part = cc in ap unit_of_part same
     part_stays (Err fault) part e = cc

@@ -37,9 +37,9 @@ use Rattle.ssa_text.specs.declared.partial.Mention.{Mention}
 use Rattle.ssa_lines.specs.declared.refusal.LimitKind.{LimitKind}
 use Rattle.ssa_lines.specs.declared.refusal.LimitKind.TheVariants.{LineBytes, Functions, Sigs, Values, Blocks, Params}
 use Rattle.ssa_lines.specs.declared.refusal.LimitKind.TheVariants.{Results, Args}
-use Rattle.ssa_lines.specs.declared.refusal.TextRefusal.{TextRefusal}
-use Rattle.ssa_lines.specs.declared.refusal.TextRefusal.TheVariants.{BadByte, BadLine, UnknownOp, NumberTooLarge}
-use Rattle.ssa_lines.specs.declared.refusal.TextRefusal.TheVariants.{Duplicate, UnknownRef, Limit}
+use Rattle.ssa_lines.specs.declared.refusal.TextFault.{TextFault}
+use Rattle.ssa_lines.specs.declared.refusal.TextFault.TheVariants.{BadByte, BadLine, UnknownOp, NumberTooLarge}
+use Rattle.ssa_lines.specs.declared.refusal.TextFault.TheVariants.{Duplicate, UnknownRef, Limit}
 
 -- what was read: signatures, whole functions, one that goes on, what its lines name, and the first line of a whole
 -- function that names what its function doesn't have
@@ -149,7 +149,7 @@ limit_passed r (ValueForm (Known v)) =
 limit_passed r _ = None
 
 -- what is wrong with a line of this form, the first of all that is
-abbrev pub fault_of_form : Read → (line : ℕ) → (last : Bool) → Form → Option TextRefusal
+abbrev pub fault_of_form : Read → (line : ℕ) → (last : Bool) → Form → Option TextFault
 fault_of_form r line last form =
     if not (in_place r form) || (last && leaves_open r form) then Some (BadLine line)
     else if is_unknown form then Some (UnknownOp line)
@@ -158,7 +158,7 @@ fault_of_form r line last form =
     else limit_of line (limit_passed r form)
 
 -- what is wrong with a line
-abbrev pub fault_of : Read → (line : ℕ) → (last : Bool) → List ℕ → Option TextRefusal
+abbrev pub fault_of : Read → (line : ℕ) → (last : Bool) → List ℕ → Option TextFault
 fault_of r line last bytes =
     if nat_lt MAX_LINE_BYTES (length bytes) then Some (Limit LineBytes line)
     else if not (is_allowed bytes) then Some (BadByte line)
@@ -241,20 +241,20 @@ behind r line (ControlForm (Fits c)) =
     }
 behind r line _ = r
 
-abbrev pub then_read : Option TextRefusal → Read → (Read → Result Read TextRefusal) → Result Read TextRefusal
+abbrev pub then_read : Option TextFault → Read → (Read → Result Read TextFault) → Result Read TextFault
 then_read (Some fault) r go = Err fault
 then_read None r go = go r
 
 -- the form of a line without a fault, or its fault
-abbrev pub form_or_fault : Option TextRefusal → Form → Result Form TextRefusal
+abbrev pub form_or_fault : Option TextFault → Form → Result Form TextFault
 form_or_fault (Some fault) form = Err fault
 form_or_fault None form = Ok form
 
-abbrev pub checked_form : Read → (line : ℕ) → (last : Bool) → List ℕ → Result Form TextRefusal
+abbrev pub checked_form : Read → (line : ℕ) → (last : Bool) → List ℕ → Result Form TextFault
 checked_form r line last bytes = form_or_fault (fault_of r line last bytes) (form_of (words_of bytes))
 
 -- one line behind what was read: what is read with it, or its fault
-abbrev pub read_line : Read → (line : ℕ) → (last : Bool) → List ℕ → Result Read TextRefusal
+abbrev pub read_line : Read → (line : ℕ) → (last : Bool) → List ℕ → Result Read TextFault
 read_line r line last bytes = then_read (fault_of r line last bytes) (behind r line (form_of (words_of bytes))) Ok
 
 abbrev pub is_last : List (List ℕ) → Bool
@@ -262,13 +262,13 @@ is_last [] = true
 is_last (line ∷ lines) = false
 
 -- the lines from this number on, behind what was read: all of them, or the first fault
-abbrev pub read_from : Read → (line : ℕ) → List (List ℕ) → Result Read TextRefusal
+abbrev pub read_from : Read → (line : ℕ) → List (List ℕ) → Result Read TextFault
 read_from r line [] = Ok r
 read_from r line (bytes ∷ lines) =
     then_read (fault_of r line (is_last lines) bytes) (behind r line (form_of (words_of bytes)))
     (λ next. read_from next (line + 1) lines)
 
 -- the unit that was read, where all that is named is there
-abbrev pub unit_or_unknown : SsaUnit → Option ℕ → Result SsaUnit TextRefusal
+abbrev pub unit_or_unknown : SsaUnit → Option ℕ → Result SsaUnit TextFault
 unit_or_unknown u None = Ok u
 unit_or_unknown u (Some line) = Err (UnknownRef line)

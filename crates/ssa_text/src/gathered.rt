@@ -10,7 +10,7 @@ ghost use Rattle.ssa_lines.specs.declared.forms.ValueLine.TheVariants.{Known};
 ghost use Rattle.ssa_text.specs.declared.partial.Named.TheVariants.{OfValue, OfBlock};
 ghost use Rattle.ssa_text.specs.Reading as spec;
 ghost use Rattle.ssa_text.specs.Reading.{mention};
-ghost use Rattle.ssa_text.specs.Gathering.{read_so_far, IsGathered, Gathers};
+ghost use Rattle.ssa_text.specs.tables.Gathering.{read_so_far, IsGathered, Gathers};
 
 use crate::partial::{
     Mention, Mentions, Named, OpenFunc, put_whole, with_block, with_end, with_value,

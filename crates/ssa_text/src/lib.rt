@@ -32,4 +32,4 @@ pub use case_text::{print_cases, read_cases};
 pub use print::{print_unit, print_unit_cases};
 pub use read::read_unit;
 pub use split::split_cases;
-pub use ssa_lines::{LimitKind, TextRefusal};
+pub use ssa_lines::{LimitKind, TextFault, TextRefusal};

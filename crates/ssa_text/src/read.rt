@@ -15,10 +15,8 @@ use crate::split::{is_case_line, split_cases};
 use case_text::{CasePart, read_case_part};
 use ssa_ir::SsaUnit;
 use ssa_ir::limits::MAX_LINE_BYTES;
-use ssa_lines::{Form, LimitKind, TextLines, TextRefusal, is_allowed, read_form};
+use ssa_lines::{Form, LimitKind, TextFault, TextLines, TextRefusal, is_allowed, read_form};
 use std::alloc::Global;
-
-/// How many bytes a line may have.
 
 /// The unit that a text spells, or its first fault.
 ///
@@ -106,14 +104,14 @@ fn checked_form(
     ensures { ReadsAs result (spec.checked_form reader.now number last line.now) }
 {
     if MAX_LINE_BYTES < line.len() {
-        return Err(TextRefusal::Limit(LimitKind::LineBytes, number));
+        return Err(TextRefusal::from(TextFault::Limit(LimitKind::LineBytes, number)));
     }
     if !is_allowed(line) {
-        return Err(TextRefusal::BadByte(number));
+        return Err(TextRefusal::from(TextFault::BadByte(number)));
     }
     let form = read_form(alloc, line)?;
     match reader.fault(number, last, &form) {
-        Some(fault) => Err(fault),
+        Some(fault) => Err(TextRefusal::from(fault)),
         None => Ok(form),
     }
 }

@@ -15,7 +15,7 @@ use ssa_ir::limits::{
     MAX_ARGS, MAX_BLOCKS, MAX_FUNCTIONS, MAX_PARAMS, MAX_RESULTS, MAX_SIGS, MAX_VALUES,
 };
 use ssa_ir::{Func, Sig, SsaUnit, Ty, Value};
-use ssa_lines::{Form, LimitKind, NameSet, NumberSet, Spelled, TextRefusal, ValueLine};
+use ssa_lines::{Form, LimitKind, NameSet, NumberSet, Spelled, TextFault, TextRefusal, ValueLine};
 use std::alloc::Global;
 use std::marker::Model;
 
@@ -27,7 +27,7 @@ pub(crate) struct Reader {
 
 impl Model for Reader {
     ghost use Rattle.ssa_text.specs.Reading.{Read};
-    ghost use Rattle.ssa_text.specs.Gathering.{read_so_far, IsGathered};
+    ghost use Rattle.ssa_text.specs.tables.Gathering.{read_so_far, IsGathered};
 
     ghost Value = { Read };
 
@@ -56,23 +56,23 @@ impl Reader {
     }
 
     /// What is wrong with a line of this form, the first of all that is.
-    pub(crate) fn fault(&self, line: u32, last: bool, form: &Form) -> Option<TextRefusal>
+    pub(crate) fn fault(&self, line: u32, last: bool, form: &Form) -> Option<TextFault>
         ensures { result ≡ fault_of_form self.now line last form.now }
     {
         if !self.is_in_place(form) || (last && self.leaves_open(form)) {
-            return Some(TextRefusal::BadLine(line));
+            return Some(TextFault::BadLine(line));
         }
         if is_unknown(form) {
-            return Some(TextRefusal::UnknownOp(line));
+            return Some(TextFault::UnknownOp(line));
         }
         if is_too_large(form) {
-            return Some(TextRefusal::NumberTooLarge(line));
+            return Some(TextFault::NumberTooLarge(line));
         }
         if self.is_twice(form) {
-            return Some(TextRefusal::Duplicate(line));
+            return Some(TextFault::Duplicate(line));
         }
         let kind = self.limit_passed(form)?;
-        Some(TextRefusal::Limit(kind, line))
+        Some(TextFault::Limit(kind, line))
     }
 
     // Whether a line of this form may stand here.
@@ -173,7 +173,7 @@ impl Reader {
     {
         let mut gathered = self.gathered;
         if let Some(line) = gathered.unknown_line().or(part.unknown) {
-            return Err(TextRefusal::UnknownRef(line));
+            return Err(TextRefusal::from(TextFault::UnknownRef(line)));
         }
         put_whole(&mut gathered.funcs, gathered.func.take())?;
         Ok(SsaUnit {

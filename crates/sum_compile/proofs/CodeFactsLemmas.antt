@@ -46,6 +46,20 @@ pub record IsPlain (line : Line) : Type 0 where
   pub label : line_label line ≡ []
   pub target : line_target line ≡ []
 
+plain : (line : Line) → line_symbols line ≡ [] → IsTrue (list_all is_register (line_registers line))
+    → IsTrue (moves_by_register line) → line_outgoing line ≡ [] → line_arguments line ≡ [] → line_label line ≡ []
+    → line_target line ≡ [] → IsPlain line
+plain line symbols registers moves outgoing arguments label target =
+    record {
+      symbols = symbols;
+      registers = registers;
+      moves = moves;
+      outgoing = outgoing;
+      arguments = arguments;
+      label = label;
+      target = target;
+    }
+
 abbrev AllPlain : List Line → Type 0
 AllPlain [] = Unit {0}
 AllPlain (line ∷ lines) = IsPlain line × AllPlain lines
@@ -104,35 +118,11 @@ load_is_plain r (Reg q) note ok own = cc
 load_is_plain r (Out j) note ok own = cc
 load_is_plain r (ArgWord j) note ok own = cc
 load_is_plain r (Frame i) note ok own =
-    record {
-      symbols = refl;
-      registers = ap (λ b. b && true) ok;
-      moves = refl;
-      outgoing = refl;
-      arguments = refl;
-      label = refl;
-      target = refl;
-    }
+    plain _ refl (ap (λ b. b && true) ok) refl refl refl refl refl
 load_is_plain r (Home v) note ok own =
-    record {
-      symbols = refl;
-      registers = ap (λ b. b && true) ok;
-      moves = refl;
-      outgoing = refl;
-      arguments = refl;
-      label = refl;
-      target = refl;
-    }
+    plain _ refl (ap (λ b. b && true) ok) refl refl refl refl refl
 load_is_plain r (Constant c) note ok own =
-    record {
-      symbols = refl;
-      registers = ap (λ b. b && true) ok;
-      moves = refl;
-      outgoing = refl;
-      arguments = refl;
-      label = refl;
-      target = refl;
-    }
+    plain _ refl (ap (λ b. b && true) ok) refl refl refl refl refl
 load_is_plain r (Addr s) note ok own = cc
 
 -- a value that stands in the frame

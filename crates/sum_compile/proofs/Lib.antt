@@ -1,5 +1,11 @@
-pub mod CodeFactsLemmas
-pub mod MachineLemmas
+-- The functions that are compiled, and the test of it.
+pub mod NarrowLemmas
+pub mod NarrowTestLemmas
+pub mod PartTestLemmas
+pub mod ValueTestLemmas
+pub mod OnceLemmas
+pub mod NumberedLemmas
+-- They meet the checks.
 pub mod NarrowAccepted
 pub mod NarrowChecks
 pub mod NarrowClasses
@@ -7,18 +13,15 @@ pub mod NarrowControls
 pub mod NarrowCycles
 pub mod NarrowDefined
 pub mod NarrowInputs
-pub mod NarrowLemmas
 pub mod NarrowMemory
-pub mod NarrowRun
-pub mod NarrowTestLemmas
-pub mod NumberedLemmas
-pub mod OnceLemmas
+-- The plain allocation, and its run.
 pub mod ParameterLemmas
-pub mod PartTestLemmas
 pub mod PlacedLemmas
+pub mod CodeFactsLemmas
+pub mod MachineLemmas
+pub mod StraightLemmas
+pub mod NarrowRun
+pub mod SumsRun
 pub mod PlainRun
 pub mod RowRun
 pub mod SpillFacts
-pub mod StraightLemmas
-pub mod SumsRun
-pub mod ValueTestLemmas

@@ -1,10 +1,9 @@
 -- No values of a narrow function wait for each other: an item stands before those of higher numbers alone.
-use Rattle.std.proofs.Common.{◌≡◌, ℕ, suc, ◌+◌, ◌<◌, Bool, true, false, true≢false, not, ◌&&◌, ◌||◌, cond, eqb, List}
-use Rattle.std.proofs.Common.{[], ◌∷◌, length, All, Option, None, Some, refl, sym, ap, subst, ◌∙◌, arith}
-use Rattle.std.specs.List.{Contains, filter}
+use Rattle.std.proofs.Common.{◌≡◌, ℕ, suc, ◌+◌, ◌<◌, Bool, true, false, true≢false, not, ◌&&◌, ◌||◌, eqb, List}
+use Rattle.std.proofs.Common.{[], ◌∷◌, length, All, None, refl, sym, ap, subst, ◌∙◌, arith}
+use Rattle.std.specs.List.{Contains}
 use Rattle.std.proofs.lemmas.Bool.{eqb-true}
 use Rattle.std.proofs.lemmas.List.Elements.{All-contains, All-filter}
-use Rattle.gossa_base.specs.declared.ids.ValueId.{ValueId}
 use Rattle.ssa_ir.specs.declared.func.SsaUnit.{SsaUnit}
 use Rattle.ssa_ir.specs.declared.func.Value.{Value}
 use Rattle.ssa_ir.specs.FirstOrder.{has_value, item, memory_taken, readers_before, same_memory}
@@ -15,23 +14,12 @@ use Rattle.ssa_check.specs.Failing.{Meets}
 use Rattle.sum_compile.specs.Narrow.{Step, TakeArg, MakeConst, AddTwo, vid, step_value, init_value, result_value}
 use Rattle.sum_compile.specs.Narrow.{block_of, func_of, IsAbove, StepFits, StepsFit}
 use Rattle.sum_compile.proofs.NarrowChecks.{each_value, narrow_meets}
+use Rattle.sum_compile.proofs.NarrowLemmas.{none_kept, takes_other}
 
 -- a value is an item by itself, and those that stand before it have lower numbers
 record Rises (block : List Value) (v : Value) : Type 0 where
   alone : item block v ≡ v ∷ []
   behind : (w : Value) → item block w ≡ w ∷ [] → stands_before block w v ≡ true → w.id.0 < v.id.0
-
--- where no value passes a test, none is kept
-none_kept : (test : Value → Bool) → ((v : Value) → test v ≡ false) → (values : List Value) → filter test values ≡ []
-none_kept test fails [] = refl
-none_kept test fails (v ∷ values) =
-    ap (λ b. cond b (v ∷ filter test values) (filter test values)) (fails v) ∙ none_kept test fails values
-
--- no value takes the memory of one that takes none
-takes_other : (reads : Bool) (memory : Option ValueId) → (reads && same_memory memory None) ≡ false
-takes_other false memory = refl
-takes_other true None = refl
-takes_other true (Some a) = refl
 
 -- nothing stands before the first value: it takes no value, and no memory that another one could read
 init_rises : (block : List Value) → Rises block init_value

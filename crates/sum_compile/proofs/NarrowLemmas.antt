@@ -1,16 +1,19 @@
 -- Narrow functions, seen as values in order.
 use Rattle.std.proofs.Common.{◌≡◌, ℕ, suc, ◌+◌, ◌^◌, ◌<◌, ◌≤◌, List, [], ◌∷◌, ◌++◌, length, get_or, take, Some}
-use Rattle.std.proofs.Common.{slice_get, refl, sym, ap, ◌∙◌, subst, arith}
+use Rattle.std.proofs.Common.{slice_get, Bool, true, false, ◌&&◌, cond, filter, Option, None, refl, sym, ap, ◌∙◌, subst}
+use Rattle.std.proofs.Common.{arith}
 use Rattle.std.specs.Option.{IfSome}
 use Rattle.std.proofs.lemmas.List.{length-replicate}
+use Rattle.gossa_base.specs.declared.ids.ValueId.{ValueId}
 use Rattle.ssa_ir.specs.declared.types.Scalar.{Scalar}
 use Rattle.ssa_ir.specs.declared.types.Scalar.TheVariants.{I64}
 use Rattle.ssa_ir.specs.declared.func.Value.{Value}
 use Rattle.ssa_ir.specs.declared.func.Block.{Block}
 use Rattle.ssa_ir.specs.declared.func.Func.{Func}
+use Rattle.ssa_ir.specs.FirstOrder.{same_memory}
 use Rattle.sum_compile.specs.Narrow.{Step, TakeArg, MakeConst, AddTwo, vid, step_value, init_value, result_value}
 use Rattle.sum_compile.specs.Narrow.{values_from, block_of, Narrow}
-use Rattle.sum_compile.specs.Numbered.{NumberedFrom}
+use Rattle.sum_compile.specs.tables.Numbered.{NumberedFrom}
 use Rattle.sum_compile.specs.Plain.{value_named, returned_value}
 use Rattle.sum_compile.proofs.NumberedLemmas.{named_get}
 
@@ -91,3 +94,15 @@ length-step_values n (s ∷ steps) = ap suc (length-step_values (suc n) steps)
 pub front_is : (n : ℕ) (steps : List Step) (r : ℕ) → take (length steps) (values_from n steps r) ≡ step_values n steps
 front_is n [] r = refl
 front_is n (s ∷ steps) r = ap (λ l. step_value n s ∷ l) (front_is (suc n) steps r)
+
+-- where no value passes a test, none is kept
+pub none_kept : (test : Value → Bool) → ((v : Value) → test v ≡ false) → (values : List Value) → filter test values ≡ []
+none_kept test fails [] = refl
+none_kept test fails (v ∷ values) =
+    ap (λ b. cond b (v ∷ filter test values) (filter test values)) (fails v) ∙ none_kept test fails values
+
+-- no value takes the memory of one that takes none
+pub takes_other : (reads : Bool) (memory : Option ValueId) → (reads && same_memory memory None) ≡ false
+takes_other false memory = refl
+takes_other true None = refl
+takes_other true (Some a) = refl

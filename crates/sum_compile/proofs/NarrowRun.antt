@@ -1,6 +1,6 @@
 -- What the run of a narrow function shows.
 use Rattle.std.proofs.Common.{◌≡◌, ℕ, zero, suc, ◌+◌, ◌<◌, Bool, true, false, not, ◌&&◌, ◌||◌, cond, eqb, List, [], ◌∷◌}
-use Rattle.std.proofs.Common.{◌++◌, length, slice_get, Option, None, Some, refl, sym, ap, ◌∙◌, subst, arith}
+use Rattle.std.proofs.Common.{◌++◌, length, slice_get, None, Some, refl, sym, ap, ◌∙◌, subst, arith}
 use Rattle.std.proofs.Math.Bool.{or-true}
 use Rattle.std.specs.List.{filter, list_all}
 use Rattle.std.proofs.lemmas.Bool.{eqb-false}
@@ -23,7 +23,7 @@ use Rattle.ssa_ir.specs.Run.{Callees, State, put, with_word, generic, result_wor
 use Rattle.ssa_ir.specs.Showing.{ends, words_at}
 use Rattle.sum_compile.specs.Narrow.{Step, TakeArg, MakeConst, AddTwo, vid, step_value, init_value, result_value}
 use Rattle.sum_compile.specs.Narrow.{values_from, block_of, func_of, IsAbove, StepFits, StepsFit, Narrow}
-use Rattle.sum_compile.proofs.NarrowLemmas.{step_number, result_named}
+use Rattle.sum_compile.proofs.NarrowLemmas.{none_kept, result_named, step_number, takes_other}
 use Rattle.sum_compile.proofs.NumberedLemmas.{same_number, other_number}
 
 -- a value that may come next, at its place in text order and alone
@@ -126,18 +126,6 @@ result_next block placed n r two positive lt h = record {
   no_follower = refl;
   alone = refl;
 }
-
--- where no value passes a test, none is kept
-none_kept : (test : Value → Bool) → ((v : Value) → test v ≡ false) → (values : List Value) → filter test values ≡ []
-none_kept test fails [] = refl
-none_kept test fails (v ∷ values) =
-    ap (λ b. cond b (v ∷ filter test values) (filter test values)) (fails v) ∙ none_kept test fails values
-
--- no value takes the memory of one that takes none
-takes_other : (reads : Bool) (memory : Option ValueId) → (reads && same_memory memory None) ≡ false
-takes_other false memory = refl
-takes_other true None = refl
-takes_other true (Some a) = refl
 
 -- the first value makes a memory, and takes none
 init_next : (block : List Value) → ComesNext block [] init_value

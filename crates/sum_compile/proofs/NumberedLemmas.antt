@@ -12,9 +12,9 @@ use Rattle.std.proofs.lemmas.List.Sums.{sum_by-cons, sum_by_more}
 use Rattle.gossa_base.specs.declared.ids.ValueId.{ValueId}
 use Rattle.ssa_ir.specs.declared.func.Value.{Value}
 use Rattle.listing.specs.declared.line.Place.{Place}
-use Rattle.sum_compile.specs.Numbered.{NumberedFrom}
+use Rattle.sum_compile.specs.tables.Numbered.{NumberedFrom}
 use Rattle.listing.specs.declared.line.Place.TheVariants.{Home}
-use Rattle.sum_compile.specs.Places.{place_by_number, place_in}
+use Rattle.sum_compile.specs.tables.Places.{place_by_number, place_in}
 use Rattle.sum_compile.specs.Plain.{has_home, home_word, value_named, place_by_op, place_of_value, place_of}
 
 pub same_number : (a b : ℕ) → a ≡ b → eqb a b ≡ true

@@ -10,7 +10,7 @@ use Rattle.std.proofs.lemmas.Option.{slice_get-get_or, get_or_from_slice_get}
 use Rattle.gossa_base.specs.declared.ids.ValueId.{ValueId}
 use Rattle.ssa_ir.specs.declared.types.Scalar.{Scalar}
 use Rattle.ssa_ir.specs.declared.func.Value.{Value}
-use Rattle.sum_compile.specs.Parameters.{noted_in, noted_at, noted, noted_all, held_from}
+use Rattle.sum_compile.specs.tables.Parameters.{noted_in, noted_at, noted, noted_all, held_from}
 use Rattle.sum_compile.specs.Plain.{parameter_number, is_number, parameter, held_then, parameters_from}
 
 -- the first that is there

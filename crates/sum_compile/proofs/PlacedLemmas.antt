@@ -9,7 +9,7 @@ use Rattle.ssa_ir.specs.declared.func.Value.{Value}
 use Rattle.listing.specs.declared.line.Place.{Place}
 use Rattle.listing.specs.declared.line.Place.TheVariants.{Frame, Const as Constant}
 use Rattle.sum_compile.specs.Narrow.{Step, TakeArg, MakeConst, AddTwo, vid, step_value, init_value, values_from}
-use Rattle.sum_compile.specs.Numbered.{NumberedFrom}
+use Rattle.sum_compile.specs.tables.Numbered.{NumberedFrom}
 use Rattle.sum_compile.specs.Plain.{has_home, home_word, place_of, place_of_value, value_named}
 use Rattle.sum_compile.proofs.NarrowLemmas.{values_numbered, length-values_from}
 use Rattle.sum_compile.proofs.NumberedLemmas.{named_get, homes_before}

@@ -1,9 +1,9 @@
 // Where each value of a block stands, by its number.
 
 ghost use Rattle.std.specs.Prelude.{◌≡◌, ◌<◌, ◌^◌, length, map, count_by, if◌then◌else◌, IfOk};
-ghost use Rattle.sum_compile.specs.Numbered.{NumberedFrom};
+ghost use Rattle.sum_compile.specs.tables.Numbered.{NumberedFrom};
 ghost use Rattle.sum_compile.specs.Plain.{has_home, place_by_op, place_of};
-ghost use Rattle.sum_compile.specs.Places.{place_in, PlaceTable};
+ghost use Rattle.sum_compile.specs.tables.Places.{place_in, PlaceTable};
 
 use gossa_base::{NoMemory, ValueId};
 use listing::Place;

@@ -7,9 +7,9 @@ ghost use Rattle.std.specs.List.{All, flat_map};
 ghost use Rattle.ssa_ir.specs.FirstOrder.{first_order};
 ghost use Rattle.listing.specs.CodeFacts.{IsCode};
 ghost use Rattle.sum_compile.specs.Narrow.{Narrow};
-ghost use Rattle.sum_compile.specs.Numbered.{NumberedFrom};
-ghost use Rattle.sum_compile.specs.Parameters.{noted, noted_all, held_from};
-ghost use Rattle.sum_compile.specs.Places.{place_in};
+ghost use Rattle.sum_compile.specs.tables.Numbered.{NumberedFrom};
+ghost use Rattle.sum_compile.specs.tables.Parameters.{noted, noted_all, held_from};
+ghost use Rattle.sum_compile.specs.tables.Places.{place_in};
 ghost use Rattle.sum_compile.specs.Plain.{parameter_number, spill_line, load_line, sum_lines, add_lines, value_lines};
 ghost use Rattle.sum_compile.specs.Plain.{result_lines, end_lines, lines_in_order, value_named, returned_value};
 ghost use Rattle.sum_compile.specs.Plain.{plain_listing};
@@ -56,7 +56,7 @@ fn allocate_block(alloc: Global, sig: &Sig, block: &Block, regs: u32) -> Result<
     requires few_results { IfSome (returned_value block.now.values block.now.control) (λ v. length v.args < 2 ^ 32) }
     requires in_order { first_order block.now.values ≡ block.now.values }
     requires facts { IsCode (plain_listing regs (record { sig = sig.now; blocks = block.now ∷ [] })).code }
-    ensures { IfOk result (λ listing. listing ≡ plain_listing regs (record { sig = sig.now; blocks = block.now ∷ [] })) }
+    ensures { IfOk result (λ made. made ≡ plain_listing regs (record { sig = sig.now; blocks = block.now ∷ [] })) }
 {
     let places = Places::of(alloc, block.values.as_slice())?;
     let held = parameters(alloc, block.values.as_slice(), sig.params.len())?;

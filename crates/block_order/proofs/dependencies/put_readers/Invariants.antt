@@ -1,5 +1,5 @@
 use Rattle.std.proofs.Common.{◌≡◌, ◌++◌, drop}
-use Rattle.block_order.specs.Dependencies.{reader_indexes, reads_memory_of}
+use Rattle.block_order.specs.tables.Dependencies.{reader_indexes, reads_memory_of}
 use Rattle.gossa_base.specs.Lists.{indexes_from}
 use Rattle.block_order.proofs.dependencies.put_readers.Given as goal
 

@@ -1,5 +1,6 @@
-use Rattle.std.proofs.Common.{subst}
-use Rattle.block_order.specs.Waiting.{AreCounts}
+use Rattle.std.proofs.Common.{◌≡◌, map, subst}
+use Rattle.block_order.specs.tables.Dependencies.{dependencies}
+use Rattle.block_order.specs.tables.Waiting.{AreCounts, unplaced}
 use Rattle.block_order.proofs.PlacingLemmas.{phis_begin}
 use Rattle.block_order.proofs.WaitingLemmas.{counts_begin}
 use Rattle.block_order.proofs.order.first_order_of.Goals as goal
@@ -12,5 +13,9 @@ go_on-requires-clause-begins c =
 
 pub go_on-requires-clause-counted : goal.go_on-requires-clause-counted
 go_on-requires-clause-counted c =
-    subst (λ bs. AreCounts c.args.values.now bs c.in_ok-counts.counts.items) c.as_slice.ensures.value
-    (counts_begin c.args.values.now c.as_slice.result.now c.in_ok-counts.counts.items c.in_ok-counts.ensures.counts)
+    let flags = c.as_slice.result.now in
+    let counts = c.in_ok-counts.counts.items in
+    subst (λ bs. AreCounts c.args.values.now bs counts) c.as_slice.ensures.value
+    (counts_begin c.args.values.now flags counts
+    (subst (λ vs. counts ≡ map (λ v. unplaced flags (dependencies vs v)) vs) c.in_ok-block.ensures
+    c.in_ok-counts.ensures.counts))

@@ -1,9 +1,9 @@
-use Rattle.std.proofs.Common.{◌≡◌, ℕ, ◌<◌, List, [], ◌∷◌, ◌++◌, Bool, length, Option, Some, None, subst, sym, ap, ◌∙◌}
+use Rattle.std.proofs.Common.{◌≡◌, List, Bool, Some, None, subst, sym, ap, ◌∙◌}
 use Rattle.std.proofs.Common.{arith}
 use Rattle.ssa_ir.specs.declared.func.Value.{Value}
 use Rattle.block_order.specs.declared.order.Item.{Item}
-use Rattle.block_order.specs.Placing.{Begins, next_from, open_from, place_item}
-use Rattle.block_order.specs.Waiting.{AreReady}
+use Rattle.block_order.specs.tables.Placing.{Begins, next_from}
+use Rattle.block_order.specs.tables.Waiting.{AreReady}
 use Rattle.block_order.proofs.PlacingLemmas.{all_placed_now, fewer, next_within, one_more}
 use Rattle.block_order.proofs.WaitingLemmas.{first_is_next}
 use Rattle.block_order.proofs.order.go_on.Goals as goal

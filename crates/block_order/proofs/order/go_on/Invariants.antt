@@ -1,6 +1,6 @@
 use Rattle.std.proofs.Common.{length}
-use Rattle.block_order.specs.Placing.{Begins, open_from}
-use Rattle.block_order.specs.Waiting.{IsWaiting}
+use Rattle.block_order.specs.tables.Placing.{Begins, open_from}
+use Rattle.block_order.specs.tables.Waiting.{IsWaiting}
 use Rattle.block_order.proofs.order.go_on.Given as goal
 
 abbrev pub decreases-loop-index : goal.decreases-loop-index

@@ -2,7 +2,7 @@ use Rattle.std.proofs.Common.{◌≡◌, ◌++◌, drop, filter}
 use Rattle.std.specs.List.{All}
 use Rattle.ssa_ir.specs.OpKinds.{is_phi}
 use Rattle.block_order.specs.Items.{IsItem}
-use Rattle.block_order.specs.Placing.{values_of_items}
+use Rattle.block_order.specs.tables.Placing.{values_of_items}
 use Rattle.block_order.proofs.order.phi_items.Given as goal
 
 -- the phis so far, and those that are left

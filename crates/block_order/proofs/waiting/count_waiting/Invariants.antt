@@ -1,6 +1,6 @@
 use Rattle.std.proofs.Common.{◌≡◌, length, map, take}
-use Rattle.block_order.specs.Dependencies.{dependencies}
-use Rattle.block_order.specs.Waiting.{unplaced}
+use Rattle.block_order.specs.tables.Dependencies.{dependencies}
+use Rattle.block_order.specs.tables.Waiting.{unplaced}
 use Rattle.block_order.proofs.WaiterLemmas.{WaitSoFar}
 use Rattle.block_order.proofs.waiting.count_waiting.Given as goal
 

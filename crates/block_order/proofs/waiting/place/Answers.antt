@@ -1,9 +1,8 @@
 use Rattle.std.proofs.Common.{◌≡◌, ℕ, ◌+◌, ◌<◌, ◌≤◌, Bool, true, false, List, length, slice_index, subst, sym, ap, ◌∙◌}
 use Rattle.std.specs.List.{All}
 use Rattle.std.proofs.lemmas.Bool.{both_ways}
-use Rattle.ssa_ir.specs.declared.func.Value.{Value}
-use Rattle.block_order.specs.Dependencies.{is_at}
-use Rattle.block_order.specs.Waiting.{AreReady, IsWaiting, occurs}
+use Rattle.block_order.specs.tables.Dependencies.{is_at}
+use Rattle.block_order.specs.tables.Waiting.{AreReady, IsWaiting, occurs}
 use Rattle.block_order.proofs.WaitingLemmas.{enough, flag_stays, placed_waiting}
 use Rattle.block_order.proofs.waiting.place.Goals as goal
 

@@ -1,6 +1,6 @@
 use Rattle.std.proofs.Common.{◌≡◌, take}
-use Rattle.block_order.specs.Placing.{place_all}
-use Rattle.block_order.specs.Waiting.{IsWaiting}
+use Rattle.block_order.specs.tables.Placing.{place_all}
+use Rattle.block_order.specs.tables.Waiting.{IsWaiting}
 use Rattle.block_order.proofs.waiting.place_item.Given as goal
 
 -- the selects so far are placed

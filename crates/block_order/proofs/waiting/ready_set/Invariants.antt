@@ -1,7 +1,7 @@
 use Rattle.std.proofs.Common.{◌≡◌, ℕ, nat_lt, ◌&&◌}
 use Rattle.std.specs.BTreeSet.{contains}
 use Rattle.std.specs.Ordering.{nat_cmp}
-use Rattle.block_order.specs.Waiting.{may_start}
+use Rattle.block_order.specs.tables.Waiting.{may_start}
 use Rattle.block_order.proofs.waiting.ready_set.Given as goal
 
 -- those so far that may start

@@ -1,5 +1,5 @@
 use Rattle.std.proofs.Common.{◌≡◌, ◌-◌, List, false, slice_set, ℕ, sym, ap, ◌∙◌}
-use Rattle.block_order.specs.Waiting.{may_start}
+use Rattle.block_order.specs.tables.Waiting.{may_start}
 use Rattle.block_order.proofs.WaitingLemmas.{released_none}
 use Rattle.block_order.proofs.waiting.release.Goals as goal
 

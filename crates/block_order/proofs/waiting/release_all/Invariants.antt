@@ -1,5 +1,5 @@
 use Rattle.std.proofs.Common.{◌≡◌, ℕ, ◌+◌, length, slice_index, take}
-use Rattle.block_order.specs.Waiting.{AreReady, occurs}
+use Rattle.block_order.specs.tables.Waiting.{AreReady, occurs}
 use Rattle.block_order.proofs.waiting.release_all.Given as goal
 
 -- those so far are told

@@ -1,5 +1,5 @@
 use Rattle.std.proofs.Common.{◌≡◌, ◌+◌, ◌≤◌, drop}
-use Rattle.block_order.specs.Waiting as spec
+use Rattle.block_order.specs.tables.Waiting as spec
 use Rattle.block_order.proofs.waiting.unplaced.Given as goal
 
 -- those so far, and those that are left

@@ -1,6 +1,6 @@
 use Rattle.std.proofs.Common.{◌≡◌, ◌≤◌, ◌++◌, ℕ, ◌<◌, List, length, take, drop, sym, ap, ◌∙◌, subst, rules}
 use Rattle.std.proofs.lemmas.List.{append_assoc}
-use Rattle.gossa_core.specs.RunLengths.{run_length}
+use Rattle.gossa_core.specs.tables.RunLengths.{run_length}
 use Rattle.gossa_core.specs.ShownText.{run_text, changed_text}
 use Rattle.gossa_core.proofs.ShownRunLemmas.{run_within, changed_step}
 use Rattle.gossa_core.proofs.shown.put_changed.Goals as goal

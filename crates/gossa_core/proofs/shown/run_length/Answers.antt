@@ -1,5 +1,5 @@
 use Rattle.std.proofs.Common.{sym, ◌∙◌}
-use Rattle.gossa_core.specs.RunLengths.{run_length}
+use Rattle.gossa_core.specs.tables.RunLengths.{run_length}
 use Rattle.gossa_core.proofs.ShownRunLemmas.{run_stops}
 use Rattle.gossa_core.proofs.shown.run_length.Goals as goal
 

@@ -1,5 +1,5 @@
 use Rattle.std.proofs.Common.{◌≡◌, ◌+◌, suc, drop}
-use Rattle.gossa_core.specs.RunLengths.{more_after, run_length}
+use Rattle.gossa_core.specs.tables.RunLengths.{more_after, run_length}
 use Rattle.gossa_core.proofs.shown.run_length.Given as goal
 
 -- the run goes on through the bytes so far, and from the last of them as far as it goes

@@ -2,7 +2,7 @@ use Rattle.std.proofs.Common.{◌≡◌, ◌∙◌, MatchOption, not, ap, sym, s
 use Rattle.ssa_check.specs.declared.refusal.Check.TheVariants.{Callee}
 use Rattle.ssa_check.specs.CalleeCheck.{callee_holds}
 use Rattle.ssa_check.specs.Failing.{Meets, LeastPlace}
-use Rattle.ssa_check.specs.Lowest.{lowest_value}
+use Rattle.ssa_check.specs.tables.Lowest.{lowest_value}
 use Rattle.ssa_check.proofs.CalleeLemmas.{callee_place}
 use Rattle.ssa_check.proofs.callees.callee_fault.Goals as goal
 

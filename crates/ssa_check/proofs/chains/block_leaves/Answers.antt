@@ -1,13 +1,17 @@
-use Rattle.std.proofs.Common.{◌≡◌, ◌≤◌, ◌<◌, true, filter, find, length, sym, ap, ◌∙◌, subst, arith}
+use Rattle.std.proofs.Common.{◌≡◌, ℕ, ◌≤◌, ◌<◌, true, List, filter, find, length, sym, ap, ◌∙◌, subst, arith}
 use Rattle.std.specs.List.{list_any}
 use Rattle.std.specs.Option.{option_map}
 use Rattle.std.proofs.lemmas.Bool.{eqb-true}
-use Rattle.ssa_check.specs.ChainLinks.{chain_end, leaves_by, links_of}
-use Rattle.ssa_check.specs.ChainTables.{LeavesOf}
+use Rattle.ssa_check.specs.tables.ChainLinks.{chain_end, leaves_by, links_of}
+use Rattle.ssa_check.specs.tables.ChainTables.{LeavesOf}
+use Rattle.ssa_ir.specs.declared.func.Value.{Value}
 use Rattle.ssa_ir.specs.WellFormed.{WellFormedFunc}
 use Rattle.ssa_ir.specs.MemoryChains.{begins_memory, has_definer, is_definer, is_memory_phi}
 use Rattle.ssa_check.proofs.ChainWalkLemmas.{leaves_chain, leaves_first, some_there}
 use Rattle.ssa_check.proofs.chains.block_leaves.Goals as goal
+
+abbrev phis_in : List Value → ℕ
+phis_in values = length (filter is_memory_phi values)
 
 pub returns-then-is_empty : goal.returns-then-is_empty
 returns-then-is_empty c =
@@ -16,14 +20,8 @@ returns-then-is_empty c =
     let values = c.as_slice-values.ensures in
     let has : has_definer b ≡ true
     = sym (c.has_definer.ensures ∙ ap (λ vs. list_any is_definer vs) values) ∙ c.if-not-has_definer.false in
-    let phi : length (filter is_memory_phi b.values) ≤ 1
-    = omega (
-      arith,
-      c.if-memory_phis-gt1.false,
-      c.memory_phis.ensures,
-      ap (λ vs. length (filter is_memory_phi vs))
-          values,
-    ) in
+    let phi : phis_in b.values ≤ 1 =
+    omega (arith, c.if-memory_phis-gt1.false, c.memory_phis.ensures, ap phis_in values) in
     let none : length c.in_ok-found.found.items ≡ 0
     = omega (
       arith,
@@ -44,14 +42,8 @@ returns c =
     let values = c.as_slice-values.ensures in
     let has : has_definer b ≡ true
     = sym (c.has_definer.ensures ∙ ap (λ vs. list_any is_definer vs) values) ∙ c.if-not-has_definer.false in
-    let phi : length (filter is_memory_phi b.values) ≤ 1
-    = omega (
-      arith,
-      c.if-memory_phis-gt1.false,
-      c.memory_phis.ensures,
-      ap (λ vs. length (filter is_memory_phi vs))
-          values,
-    ) in
+    let phi : phis_in b.values ≤ 1 =
+    omega (arith, c.if-memory_phis-gt1.false, c.memory_phis.ensures, ap phis_in values) in
     let some : 0 < length c.in_ok-found.found.items
     = omega (
       arith,

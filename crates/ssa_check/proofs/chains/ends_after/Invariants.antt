@@ -1,5 +1,5 @@
 use Rattle.std.proofs.Common.{◌≡◌, ◌-◌}
-use Rattle.ssa_check.specs.ChainLinks.{ends_after}
+use Rattle.ssa_check.specs.tables.ChainLinks.{ends_after}
 use Rattle.ssa_check.proofs.chains.ends_after.Given as goal
 
 -- the steps left from here are all from the last

@@ -1,5 +1,5 @@
 use Rattle.std.proofs.Common.{◌≡◌, take}
-use Rattle.ssa_check.specs.ChainLinks.{links_of}
+use Rattle.ssa_check.specs.tables.ChainLinks.{links_of}
 use Rattle.ssa_check.proofs.chains.inner_links.Given as goal
 
 -- the inner definers among the values so far

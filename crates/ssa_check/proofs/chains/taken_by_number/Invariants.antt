@@ -1,6 +1,6 @@
 use Rattle.std.proofs.Common.{◌≡◌, [], drop, nat_eq}
 use Rattle.indexmap.specs.IndexMap.{insert_all}
-use Rattle.ssa_check.specs.ChainLinks.{taken_pairs}
+use Rattle.ssa_check.specs.tables.ChainLinks.{taken_pairs}
 use Rattle.ssa_check.proofs.chains.taken_by_number.Given as goal
 
 -- those left, put behind those that are there, give all

@@ -1,7 +1,7 @@
 use Rattle.std.proofs.Common.{◌≡◌, nat_eq, take}
 use Rattle.std.specs.List.{list_any}
 use Rattle.gossa_base.specs.declared.ids.ValueId.{ValueId}
-use Rattle.ssa_check.specs.ChainLinks.{is_taken}
+use Rattle.ssa_check.specs.tables.ChainLinks.{is_taken}
 use Rattle.ssa_check.proofs.chains.taken_numbers.Given as goal
 
 -- the memories that those so far take

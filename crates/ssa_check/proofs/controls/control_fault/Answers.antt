@@ -7,8 +7,8 @@ use Rattle.ssa_ir.specs.WellFormed.{WellFormedFunc}
 use Rattle.ssa_check.specs.declared.refusal.Check.TheVariants.{Control}
 use Rattle.ssa_check.specs.BlockChecks.{control_holds}
 use Rattle.ssa_check.specs.Failing.{Meets, LeastPlace}
-use Rattle.ssa_check.specs.Lowest.{lowest_block}
-use Rattle.ssa_check.specs.Uses.{TellsOf}
+use Rattle.ssa_check.specs.tables.Lowest.{lowest_block}
+use Rattle.ssa_check.specs.tables.Uses.{TellsOf}
 use Rattle.ssa_check.proofs.PlaceLemmas.{block_place}
 use Rattle.ssa_check.proofs.controls.control_fault.Goals as goal
 

@@ -2,7 +2,7 @@ use Rattle.std.proofs.Common.{◌≡◌, ◌||◌, take}
 use Rattle.std.specs.List.{list_any}
 use Rattle.gossa_base.specs.declared.ids.ValueId.{ValueId}
 use Rattle.ssa_ir.specs.FirstOrder.{same_value}
-use Rattle.ssa_check.specs.Uses.{is_noted}
+use Rattle.ssa_check.specs.tables.Uses.{is_noted}
 use Rattle.ssa_check.proofs.controls.note_args.Given as goal
 
 -- the arguments so far are noted

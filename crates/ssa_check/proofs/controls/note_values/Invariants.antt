@@ -1,6 +1,6 @@
 use Rattle.std.proofs.Common.{◌≡◌, ◌||◌, take}
 use Rattle.gossa_base.specs.declared.ids.ValueId.{ValueId}
-use Rattle.ssa_check.specs.Uses.{is_noted, is_taken}
+use Rattle.ssa_check.specs.tables.Uses.{is_noted, is_taken}
 use Rattle.ssa_check.proofs.controls.note_values.Given as goal
 
 -- the arguments of the values so far are noted

@@ -1,6 +1,6 @@
 use Rattle.std.proofs.Common.{◌≡◌, take}
 use Rattle.std.specs.List.{flat_map}
-use Rattle.ssa_check.specs.EdgeTables.{incoming}
+use Rattle.ssa_check.specs.tables.EdgeTables.{incoming}
 use Rattle.ssa_check.proofs.edges.all_incoming.Given as goal
 
 -- the edges of the blocks so far

@@ -1,6 +1,6 @@
 use Rattle.std.proofs.Common.{◌≡◌, take}
 use Rattle.std.specs.List.{flat_map}
-use Rattle.ssa_check.specs.EdgeTables.{outgoing}
+use Rattle.ssa_check.specs.tables.EdgeTables.{outgoing}
 use Rattle.ssa_check.proofs.edges.all_outgoing.Given as goal
 
 -- the edges of the blocks so far

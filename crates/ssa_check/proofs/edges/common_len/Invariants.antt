@@ -1,5 +1,5 @@
 use Rattle.std.proofs.Common.{◌≡◌, ◌≤◌, ◌+◌, ◌-◌, length, drop}
-use Rattle.ssa_check.specs.EdgeTables.{common_len}
+use Rattle.ssa_check.specs.tables.EdgeTables.{common_len}
 use Rattle.ssa_check.proofs.edges.common_len.Given as goal
 
 -- behind those that are alike so far stand the others that are

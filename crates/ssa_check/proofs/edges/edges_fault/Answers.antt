@@ -2,9 +2,9 @@ use Rattle.std.proofs.Common.{◌≡◌, ◌∙◌, IsPermutation, MatchOption, 
 use Rattle.std.proofs.lemmas.Bool.{not-true, not_from_false}
 use Rattle.ssa_check.specs.declared.refusal.Check.TheVariants.{Edges}
 use Rattle.ssa_check.specs.BlockChecks.{edges_hold}
-use Rattle.ssa_check.specs.EdgeTables.{all_outgoing, all_incoming, first_difference}
+use Rattle.ssa_check.specs.tables.EdgeTables.{all_outgoing, all_incoming, first_difference}
 use Rattle.ssa_check.specs.Failing.{Meets, LeastPlace}
-use Rattle.ssa_check.specs.Lowest.{lowest_block}
+use Rattle.ssa_check.specs.tables.Lowest.{lowest_block}
 use Rattle.ssa_check.proofs.EdgeLemmas.{edges_lowest}
 use Rattle.ssa_check.proofs.PlaceLemmas.{block_place}
 use Rattle.ssa_check.proofs.edges.edges_fault.Goals as goal

@@ -1,6 +1,6 @@
 use Rattle.std.proofs.Common.{◌≡◌, take}
 use Rattle.std.specs.List.{fold}
-use Rattle.ssa_check.specs.Lowest.{lower_where}
+use Rattle.ssa_check.specs.tables.Lowest.{lower_where}
 use Rattle.ssa_check.proofs.lowest.lowest_in.Given as goal
 
 -- the values so far have this lowest number

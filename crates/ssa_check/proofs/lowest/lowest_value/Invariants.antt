@@ -1,6 +1,6 @@
 use Rattle.std.proofs.Common.{◌≡◌, take, None}
 use Rattle.std.specs.List.{fold}
-use Rattle.ssa_check.specs.Lowest.{lowest_in}
+use Rattle.ssa_check.specs.tables.Lowest.{lowest_in}
 use Rattle.ssa_check.proofs.lowest.lowest_value.Given as goal
 
 -- the blocks so far have this lowest number

@@ -1,5 +1,5 @@
 use Rattle.std.proofs.Common.{◌≡◌, take}
-use Rattle.ssa_check.specs.MemorySweeps.{met_of}
+use Rattle.ssa_check.specs.tables.MemorySweeps.{met_of}
 use Rattle.ssa_check.proofs.memories.met_of.Given as goal
 
 -- what is passed through the blocks so far

@@ -1,5 +1,5 @@
 use Rattle.std.proofs.Common.{sym, subst}
-use Rattle.ssa_check.specs.PassedMemories.{SaysBefore}
+use Rattle.ssa_check.specs.tables.PassedMemories.{SaysBefore}
 use Rattle.ssa_check.proofs.MemorySweepLemmas.{before_said}
 use Rattle.ssa_check.proofs.memories.passed_before.Goals as goal
 

@@ -1,5 +1,5 @@
 use Rattle.std.proofs.Common.{◌≡◌, length}
-use Rattle.ssa_check.specs.MemorySweeps.{AreShown, all_left}
+use Rattle.ssa_check.specs.tables.MemorySweeps.{AreShown, all_left}
 use Rattle.ssa_check.proofs.memories.passed_memories.Given as goal
 
 -- what is passed so far is shown by paths

@@ -1,4 +1,4 @@
-use Rattle.ssa_check.specs.MemorySweeps.{Sweeps}
+use Rattle.ssa_check.specs.tables.MemorySweeps.{Sweeps}
 use Rattle.ssa_check.proofs.memories.sweep.Given as goal
 
 -- the blocks so far were swept

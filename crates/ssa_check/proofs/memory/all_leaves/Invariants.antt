@@ -1,6 +1,6 @@
 use Rattle.std.proofs.Common.{◌≡◌, length}
-use Rattle.ssa_check.specs.ChainTables.{LeavesOf}
-use Rattle.ssa_check.specs.MemoryTables.{EachOf}
+use Rattle.ssa_check.specs.tables.ChainTables.{LeavesOf}
+use Rattle.ssa_check.specs.tables.MemoryTables.{EachOf}
 use Rattle.ssa_check.proofs.memory.all_leaves.Given as goal
 
 -- what the blocks so far leave

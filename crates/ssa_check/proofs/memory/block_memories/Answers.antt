@@ -1,5 +1,5 @@
 use Rattle.std.proofs.Common.{◌∙◌}
-use Rattle.ssa_check.specs.MemoryTables.{IsMemoryOf}
+use Rattle.ssa_check.specs.tables.MemoryTables.{IsMemoryOf}
 use Rattle.ssa_check.proofs.MemoryTableLemmas.{known_more}
 use Rattle.ssa_check.proofs.TableLemmas.{same_blocks}
 use Rattle.ssa_check.proofs.memory.block_memories.Goals as goal

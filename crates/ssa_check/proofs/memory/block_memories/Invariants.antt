@@ -1,5 +1,5 @@
 use Rattle.std.proofs.Common.{◌≡◌, length}
-use Rattle.ssa_check.specs.MemoryTables.{EachOf, IsMemoryOf}
+use Rattle.ssa_check.specs.tables.MemoryTables.{EachOf, IsMemoryOf}
 use Rattle.ssa_check.proofs.memory.block_memories.Given as goal
 
 -- what is found of the blocks so far

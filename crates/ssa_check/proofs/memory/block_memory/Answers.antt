@@ -8,8 +8,8 @@ use Rattle.ssa_check.specs.declared.memories.Leaves.{Leaves}
 use Rattle.ssa_check.specs.declared.memories.Leaves.TheVariants.{Through}
 use Rattle.ssa_check.specs.declared.memories.Passed.{Passed}
 use Rattle.ssa_tables.specs.Blocks.{index_in, preds_of}
-use Rattle.ssa_check.specs.MemoryTables.{incoming_of}
-use Rattle.ssa_check.specs.PassedMemories.{ArePassedMemories, SaysBefore}
+use Rattle.ssa_check.specs.tables.MemoryTables.{incoming_of}
+use Rattle.ssa_check.specs.tables.PassedMemories.{ArePassedMemories, SaysBefore}
 use Rattle.ssa_tables.proofs.BlockLemmas.{block_index, block_there}
 use Rattle.ssa_check.proofs.MemoryPathLemmas.{says_paths}
 use Rattle.ssa_check.proofs.memory.block_memory.Goals as goal

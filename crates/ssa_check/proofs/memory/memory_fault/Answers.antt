@@ -9,10 +9,10 @@ use Rattle.ssa_check.specs.declared.refusal.At.{At}
 use Rattle.ssa_check.specs.declared.refusal.Check.TheVariants.{Memory}
 use Rattle.ssa_check.specs.Failing.{Meets, LeastPlace}
 use Rattle.ssa_tables.specs.Blocks.{preds_of}
-use Rattle.ssa_check.specs.MemoryTables.{AreMemories, block_fails, memory_in, value_fails}
-use Rattle.ssa_check.specs.PassedMemories.{ArePassedMemories}
-use Rattle.ssa_check.specs.LeastPlaces.{least_place}
-use Rattle.ssa_check.specs.Lowest.{lowest_block, lowest_value}
+use Rattle.ssa_check.specs.tables.MemoryTables.{AreMemories, block_fails, memory_in, value_fails}
+use Rattle.ssa_check.specs.tables.PassedMemories.{ArePassedMemories}
+use Rattle.ssa_check.specs.tables.LeastPlaces.{least_place}
+use Rattle.ssa_check.specs.tables.Lowest.{lowest_block, lowest_value}
 use Rattle.ssa_check.proofs.MemoryLemmas.{memory_place}
 use Rattle.ssa_check.proofs.TableLemmas.{all_there}
 use Rattle.ssa_check.proofs.memory.memory_fault.Goals as goal

@@ -1,6 +1,6 @@
 use Rattle.std.proofs.Common.{◌≡◌, drop}
 use Rattle.ssa_ir.specs.MemoryChains.{is_memory_phi}
-use Rattle.ssa_check.specs.MemoryTables.{first_number}
+use Rattle.ssa_check.specs.tables.MemoryTables.{first_number}
 use Rattle.ssa_check.proofs.memory.memory_phi.Given as goal
 
 -- the first among the values left is the first of all

@@ -1,5 +1,5 @@
 use Rattle.std.proofs.Common.{◌≡◌, drop}
-use Rattle.ssa_check.specs.MemoryTables.{some_other}
+use Rattle.ssa_check.specs.tables.MemoryTables.{some_other}
 use Rattle.ssa_check.proofs.memory.some_other.Given as goal
 
 -- some argument left is another memory exactly where some of all is

@@ -1,5 +1,5 @@
 use Rattle.std.proofs.Common.{◌≡◌, drop}
-use Rattle.ssa_check.specs.MemoryTables.{first_number, is_start}
+use Rattle.ssa_check.specs.tables.MemoryTables.{first_number, is_start}
 use Rattle.ssa_check.proofs.memory.start_memory.Given as goal
 
 -- the first among the values left is the first of all

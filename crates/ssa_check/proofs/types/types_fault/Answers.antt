@@ -1,7 +1,7 @@
 use Rattle.std.proofs.Common.{◌≡◌, ◌∙◌, MatchOption, not, ap, subst, sym}
 use Rattle.ssa_check.specs.declared.refusal.Check.TheVariants.{Types}
 use Rattle.ssa_check.specs.Failing.{Meets, LeastPlace}
-use Rattle.ssa_check.specs.Lowest.{lowest_value}
+use Rattle.ssa_check.specs.tables.Lowest.{lowest_value}
 use Rattle.ssa_check.specs.ValueChecks.{types_hold}
 use Rattle.ssa_check.proofs.TypeLemmas.{types_place}
 use Rattle.ssa_check.proofs.types.types_fault.Goals as goal

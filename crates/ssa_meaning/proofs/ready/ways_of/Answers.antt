@@ -1,6 +1,6 @@
 use Rattle.std.proofs.Common.{◌∙◌, ap, arith, length, slice_get, sym}
 use Rattle.std.proofs.lemmas.Option.{slice_get-get_or}
-use Rattle.ssa_meaning.specs.Ready.{LeadsTo}
+use Rattle.ssa_meaning.specs.tables.Ready.{LeadsTo}
 use Rattle.ssa_meaning.proofs.ReadyLemmas.{all_ways, made_further, made_none}
 use Rattle.ssa_meaning.proofs.ready.ways_of.Goals as goal
 

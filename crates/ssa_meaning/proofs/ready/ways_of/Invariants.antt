@@ -1,4 +1,4 @@
-use Rattle.ssa_meaning.specs.Ready.{LeadsTo}
+use Rattle.ssa_meaning.specs.tables.Ready.{LeadsTo}
 use Rattle.ssa_meaning.proofs.ReadyLemmas.{MadeFor}
 use Rattle.ssa_meaning.proofs.ready.ways_of.Given as goal
 

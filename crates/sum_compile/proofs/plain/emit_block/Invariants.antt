@@ -1,6 +1,6 @@
 use Rattle.std.proofs.Common.{◌≡◌, ◌++◌, ◌∷◌, map, take}
 use Rattle.listing.specs.declared.line.Line.TheVariants.{Label}
-use Rattle.sum_compile.specs.Places.{place_in}
+use Rattle.sum_compile.specs.tables.Places.{place_in}
 use Rattle.sum_compile.specs.Plain.{spill_line}
 use Rattle.sum_compile.proofs.plain.emit_block.Given as goal
 

@@ -1,5 +1,5 @@
 use Rattle.std.proofs.Common.{◌≡◌, ◌++◌, drop}
-use Rattle.sum_compile.specs.Places.{place_in}
+use Rattle.sum_compile.specs.tables.Places.{place_in}
 use Rattle.sum_compile.specs.Plain.{result_lines}
 use Rattle.sum_compile.proofs.plain.emit_results.Given as goal
 

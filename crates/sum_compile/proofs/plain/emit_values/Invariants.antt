@@ -1,6 +1,6 @@
 use Rattle.std.proofs.Common.{◌≡◌, ◌++◌, take}
 use Rattle.std.specs.List.{flat_map}
-use Rattle.sum_compile.specs.Places.{place_in}
+use Rattle.sum_compile.specs.tables.Places.{place_in}
 use Rattle.sum_compile.specs.Plain.{value_lines}
 use Rattle.sum_compile.proofs.plain.emit_values.Given as goal
 

@@ -1,5 +1,5 @@
 use Rattle.std.proofs.Common.{◌≡◌, ◌++◌, drop}
-use Rattle.sum_compile.specs.Parameters.{held_from}
+use Rattle.sum_compile.specs.tables.Parameters.{held_from}
 use Rattle.sum_compile.proofs.plain.held_registers.Given as goal
 
 -- the registers so far, and those of the rest, are those of all

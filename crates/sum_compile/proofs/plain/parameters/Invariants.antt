@@ -1,5 +1,5 @@
 use Rattle.std.proofs.Common.{◌≡◌, drop, replicate, None}
-use Rattle.sum_compile.specs.Parameters.{noted_all}
+use Rattle.sum_compile.specs.tables.Parameters.{noted_all}
 use Rattle.sum_compile.proofs.plain.parameters.Given as goal
 
 -- noting the rest notes all

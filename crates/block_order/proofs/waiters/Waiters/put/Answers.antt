@@ -1,7 +1,7 @@
 use Rattle.std.proofs.Common.{◌≡◌, ℕ, ◌<◌, List, [], ◌∷◌, ◌++◌, length, get_or, map, set, Vec, Global, sym, ap, ◌∙◌}
 use Rattle.std.proofs.Common.{arith}
 use Rattle.std.proofs.lemmas.List.{length-map}
-use Rattle.block_order.specs.Waiting.{waiters_of}
+use Rattle.block_order.specs.tables.Waiting.{waiters_of}
 use Rattle.gossa_base.proofs.VectorLists.{get_map, map_set}
 use Rattle.block_order.proofs.waiters.Waiters.put.Goals as goal
 

@@ -1,5 +1,5 @@
 use Rattle.std.proofs.Common.{◌≡◌, length, take}
-use Rattle.block_order.specs.Waiting.{with_waiters}
+use Rattle.block_order.specs.tables.Waiting.{with_waiters}
 use Rattle.block_order.proofs.waiters.Waiters.put_all.Given as goal
 
 -- it waits for those so far

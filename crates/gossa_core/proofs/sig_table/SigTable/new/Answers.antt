@@ -2,7 +2,7 @@ use Rattle.std.proofs.Common.{ℕ, nat_eq, drop, find, ◌+◌, ap, ◌∙◌}
 use Rattle.std.specs.Cmp.Lexicographic.{pointwise}
 use Rattle.indexmap.specs.IndexMap.{get}
 use Rattle.ssa_ir.specs.Lookups.{is_of}
-use Rattle.gossa_core.specs.SigTables.{found_or}
+use Rattle.gossa_core.specs.tables.SigTables.{found_or}
 use Rattle.gossa_core.proofs.SigTableLemmas.{found_from}
 use Rattle.gossa_core.proofs.sig_table.SigTable.new.Goals as goal
 

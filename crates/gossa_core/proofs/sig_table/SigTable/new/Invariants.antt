@@ -3,7 +3,7 @@ use Rattle.std.specs.Cmp.Lexicographic.{pointwise}
 use Rattle.indexmap.specs.IndexMap.{get}
 use Rattle.ssa_ir.specs.Lookups.{is_of}
 use Rattle.gossa_core.specs.ShownText.{sig_among}
-use Rattle.gossa_core.specs.SigTables.{found_or}
+use Rattle.gossa_core.specs.tables.SigTables.{found_or}
 use Rattle.gossa_core.proofs.sig_table.SigTable.new.Given as goal
 
 -- the table, and then the signatures left, give what all signatures give

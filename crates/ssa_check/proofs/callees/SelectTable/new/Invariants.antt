@@ -1,5 +1,5 @@
 use Rattle.std.proofs.Common.{take, flat_map}
-use Rattle.ssa_check.specs.Selects.{picks_of, TellsOf}
+use Rattle.ssa_check.specs.tables.Selects.{picks_of, TellsOf}
 use Rattle.ssa_check.proofs.callees.SelectTable.new.Given as goal
 
 -- the selects of the blocks so far are noted

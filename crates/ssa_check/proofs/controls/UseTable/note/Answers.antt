@@ -2,7 +2,7 @@ use Rattle.std.proofs.Common.{◌≡◌, ◌∙◌, ◌||◌, cond, true, ap, re
 use Rattle.std.proofs.lemmas.Bool.{not-false, not-true}
 use Rattle.gossa_base.specs.declared.ids.ValueId.{ValueId}
 use Rattle.ssa_ir.specs.FirstOrder.{same_value}
-use Rattle.ssa_check.specs.Uses.{is_noted, is_taken}
+use Rattle.ssa_check.specs.tables.Uses.{is_noted, is_taken}
 use Rattle.ssa_check.proofs.ControlLemmas.{without_control, first_control, shared_control}
 use Rattle.ssa_check.proofs.controls.UseTable.note.Goals as goal
 

@@ -1,5 +1,5 @@
 use Rattle.std.proofs.Common.{take}
-use Rattle.ssa_check.specs.Uses.{TellsOf}
+use Rattle.ssa_check.specs.tables.Uses.{TellsOf}
 use Rattle.ssa_check.proofs.controls.UseTable.of_func.Given as goal
 
 -- the table says what is so of the blocks so far

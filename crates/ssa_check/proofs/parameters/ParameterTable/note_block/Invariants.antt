@@ -1,5 +1,5 @@
 use Rattle.std.proofs.Common.{take}
-use Rattle.ssa_check.specs.ParameterTables.{IsNoted}
+use Rattle.ssa_check.specs.tables.ParameterTables.{IsNoted}
 use Rattle.ssa_check.proofs.parameters.ParameterTable.note_block.Given as goal
 
 -- the values so far are noted

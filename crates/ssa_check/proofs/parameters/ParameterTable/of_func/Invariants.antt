@@ -1,6 +1,6 @@
 use Rattle.std.proofs.Common.{take}
 use Rattle.std.specs.List.{flat_map}
-use Rattle.ssa_check.specs.ParameterTables.{IsTableOf}
+use Rattle.ssa_check.specs.tables.ParameterTables.{IsTableOf}
 use Rattle.ssa_check.proofs.parameters.ParameterTable.of_func.Given as goal
 
 -- the table is that of the blocks so far

@@ -1,6 +1,6 @@
 use Rattle.std.proofs.Common.{ap, ◌∙◌}
 use Rattle.ssa_ir.specs.Lookups.{values_of}
-use Rattle.ssa_check.specs.ParameterTables.{is_below, is_init_value}
+use Rattle.ssa_check.specs.tables.ParameterTables.{is_below, is_init_value}
 use Rattle.ssa_check.proofs.ParameterLemmas.{below_lowest}
 use Rattle.ssa_check.proofs.parameters.ParameterTest.has_lower_init.Goals as goal
 

@@ -1,7 +1,7 @@
 use Rattle.std.proofs.Common.{◌≡◌, drop}
 use Rattle.gossa_base.specs.Memory.{write_pieces}
 use Rattle.ssa_ir.specs.Inputs.{pieces_of}
-use Rattle.ssa_meaning.specs.MemoryChanges.{memory_of}
+use Rattle.ssa_meaning.specs.tables.MemoryChanges.{memory_of}
 use Rattle.ssa_meaning.proofs.memory.RunMemory.answer.Given as goal
 
 -- with the pieces left, the memory is as with all

@@ -1,6 +1,6 @@
 use Rattle.std.specs.Map.Iter.{deref_pair}
 use Rattle.std.proofs.lemmas.Map.Iter.{rest_all}
-use Rattle.ssa_meaning.specs.MemoryChanges.{memory_of}
+use Rattle.ssa_meaning.specs.tables.MemoryChanges.{memory_of}
 use Rattle.ssa_meaning.proofs.MemoryChangedLemmas.{all_told}
 use Rattle.ssa_meaning.proofs.memory.RunMemory.changed.Goals as goal
 

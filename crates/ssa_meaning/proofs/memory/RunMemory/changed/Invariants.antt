@@ -1,5 +1,5 @@
 use Rattle.std.proofs.Common.{◌≡◌, ◌++◌}
-use Rattle.ssa_meaning.specs.MemoryChanges.{memory_of}
+use Rattle.ssa_meaning.specs.tables.MemoryChanges.{memory_of}
 use Rattle.ssa_meaning.proofs.MemoryChangedLemmas.{changes_in}
 use Rattle.ssa_meaning.proofs.memory.RunMemory.changed.Given as goal
 

@@ -1,5 +1,5 @@
 use Rattle.std.proofs.Common.{◌+◌, ◌-◌, arith}
-use Rattle.ssa_meaning.specs.MemoryChanges.{memory_of}
+use Rattle.ssa_meaning.specs.tables.MemoryChanges.{memory_of}
 use Rattle.ssa_meaning.proofs.MemoryLemmas.{read_fits}
 use Rattle.ssa_meaning.proofs.memory.RunMemory.load.Goals as goal
 

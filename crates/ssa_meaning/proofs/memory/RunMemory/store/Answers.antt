@@ -1,6 +1,6 @@
 use Rattle.std.proofs.Common.{◌≡◌, ◌+◌, ap, ◌∙◌, refl}
 use Rattle.gossa_base.specs.Words.{low}
-use Rattle.ssa_meaning.specs.MemoryChanges.{memory_of}
+use Rattle.ssa_meaning.specs.tables.MemoryChanges.{memory_of}
 use Rattle.ssa_meaning.proofs.MemoryLemmas.{byte_stored}
 use Rattle.ssa_meaning.proofs.memory.RunMemory.store.Goals as goal
 

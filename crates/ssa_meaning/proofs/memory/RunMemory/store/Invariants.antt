@@ -1,6 +1,6 @@
 use Rattle.std.proofs.Common.{◌≡◌, ◌+◌, ◌-◌}
 use Rattle.gossa_base.specs.Memory.{write_bytes, bytes_of}
-use Rattle.ssa_meaning.specs.MemoryChanges.{memory_of, since_of}
+use Rattle.ssa_meaning.specs.tables.MemoryChanges.{memory_of, since_of}
 use Rattle.ssa_meaning.proofs.memory.RunMemory.store.Given as goal
 
 -- with the bytes left, the memory is as with all

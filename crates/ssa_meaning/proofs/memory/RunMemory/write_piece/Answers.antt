@@ -1,5 +1,5 @@
 use Rattle.std.proofs.Common.{refl}
-use Rattle.ssa_meaning.specs.MemoryChanges.{memory_of}
+use Rattle.ssa_meaning.specs.tables.MemoryChanges.{memory_of}
 use Rattle.ssa_meaning.proofs.MemoryLemmas.{byte_written, inserted}
 use Rattle.ssa_meaning.proofs.memory.RunMemory.write_piece.Goals as goal
 

@@ -1,6 +1,6 @@
 use Rattle.std.proofs.Common.{ap, sym, ◌∙◌}
 use Rattle.std.specs.Option.{option_copied}
-use Rattle.ssa_meaning.specs.Running.{words_of}
+use Rattle.ssa_meaning.specs.tables.Running.{words_of}
 use Rattle.gossa_base.proofs.ListPlaces.{item_copied}
 use Rattle.ssa_meaning.proofs.StepLemmas.{operand_at, word_of_argument}
 use Rattle.ssa_meaning.proofs.running.Running.operand.Goals as goal

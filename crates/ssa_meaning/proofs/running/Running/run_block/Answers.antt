@@ -7,9 +7,9 @@ use Rattle.ssa_ir.specs.FirstOrder.{first_order}
 use Rattle.ssa_ir.specs.Inputs.{Inputs, inputs_of}
 use Rattle.ssa_ir.specs.Lookups.{sig_of}
 use Rattle.ssa_ir.specs.Run.{Callees, State, generic, run_values, run_control, run_block}
-use Rattle.ssa_meaning.specs.Onward.{Further, onward_shown, Turned}
-use Rattle.ssa_meaning.specs.Ran.{behind, Ran, next_of}
-use Rattle.ssa_meaning.specs.Running.{state_of}
+use Rattle.ssa_meaning.specs.tables.Onward.{Further, onward_shown, Turned}
+use Rattle.ssa_meaning.specs.tables.Ran.{behind, Ran, next_of}
+use Rattle.ssa_meaning.specs.tables.Running.{state_of}
 use Rattle.ssa_meaning.proofs.StepLemmas.{ok_as}
 use Rattle.ssa_meaning.proofs.TurnLemmas.{block_ran}
 use Rattle.ssa_meaning.proofs.running.Running.run_block.Goals as goal

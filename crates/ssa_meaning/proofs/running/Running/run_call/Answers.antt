@@ -6,8 +6,8 @@ use Rattle.ssa_ir.specs.declared.case.Reply.{Reply}
 use Rattle.ssa_ir.specs.Inputs.{Answer, inputs_of, answer_of, pieces_of}
 use Rattle.ssa_ir.specs.Lookups.{sig_of}
 use Rattle.ssa_ir.specs.Run.{Form, State, generic, shown_of}
-use Rattle.ssa_meaning.specs.MemoryChanges.{memory_of, since_of}
-use Rattle.ssa_meaning.specs.Running.{state_of}
+use Rattle.ssa_meaning.specs.tables.MemoryChanges.{memory_of, since_of}
+use Rattle.ssa_meaning.specs.tables.Running.{state_of}
 use Rattle.gossa_base.proofs.ListPlaces.{item_copied}
 use Rattle.ssa_meaning.proofs.StepLemmas.{taken_from, call_goes_on}
 use Rattle.ssa_meaning.proofs.running.Running.run_call.Goals as goal

@@ -7,8 +7,8 @@ use Rattle.ssa_ir.specs.Lookups.{sig_of}
 use Rattle.ssa_ir.specs.Roles.{role}
 use Rattle.ssa_ir.specs.Run.{Form, State, generic, run_role, run_values}
 use Rattle.block_order.specs.Items.{item_values}
-use Rattle.ssa_meaning.specs.Ran.{Ran, next_of}
-use Rattle.ssa_meaning.specs.Running.{state_of}
+use Rattle.ssa_meaning.specs.tables.Ran.{Ran, next_of}
+use Rattle.ssa_meaning.specs.tables.Running.{state_of}
 use Rattle.ssa_meaning.proofs.StepItemLemmas.{item_ran}
 use Rattle.ssa_meaning.proofs.StepLemmas.{ok_as}
 use Rattle.ssa_meaning.proofs.running.Running.run_item.Goals as goal

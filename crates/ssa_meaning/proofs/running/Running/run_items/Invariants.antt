@@ -6,8 +6,8 @@ use Rattle.ssa_ir.specs.Inputs.{inputs_of}
 use Rattle.ssa_ir.specs.Lookups.{sig_of}
 use Rattle.ssa_ir.specs.Run.{State, generic, run_values}
 use Rattle.block_order.specs.Items.{item_values}
-use Rattle.ssa_meaning.specs.Ran.{behind}
-use Rattle.ssa_meaning.specs.Running.{room_of, state_of}
+use Rattle.ssa_meaning.specs.tables.Ran.{behind}
+use Rattle.ssa_meaning.specs.tables.Running.{room_of, state_of}
 use Rattle.ssa_meaning.proofs.running.Running.run_items.Given as goal
 
 -- what was shown so far, and then the items that are left, are all

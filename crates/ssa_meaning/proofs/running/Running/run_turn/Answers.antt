@@ -8,8 +8,8 @@ use Rattle.ssa_ir.specs.Inputs.{Inputs, inputs_of}
 use Rattle.ssa_ir.specs.Lookups.{sig_of}
 use Rattle.ssa_ir.specs.Run.{Form, State, generic, run_block}
 use Rattle.ssa_meaning.specs.declared.ready.ReadyBlock.{ReadyBlock}
-use Rattle.ssa_meaning.specs.Onward.{Turned}
-use Rattle.ssa_meaning.specs.Running.{room_of, state_of}
+use Rattle.ssa_meaning.specs.tables.Onward.{Turned}
+use Rattle.ssa_meaning.specs.tables.Running.{room_of, state_of}
 use Rattle.ssa_meaning.proofs.StepLemmas.{ok_as}
 use Rattle.ssa_meaning.proofs.TurnLemmas.{runnable}
 use Rattle.ssa_meaning.proofs.running.Running.run_turn.Goals as goal

@@ -3,8 +3,8 @@ use Rattle.ssa_ir.specs.declared.func.Block.{Block}
 use Rattle.ssa_ir.specs.Inputs.{inputs_of}
 use Rattle.ssa_ir.specs.Lookups.{sig_of}
 use Rattle.ssa_ir.specs.Run.{generic, run, turns}
-use Rattle.ssa_meaning.specs.Ran.{behind}
-use Rattle.ssa_meaning.specs.Running.{room_of, state_of}
+use Rattle.ssa_meaning.specs.tables.Ran.{behind}
+use Rattle.ssa_meaning.specs.tables.Running.{room_of, state_of}
 use Rattle.ssa_meaning.proofs.running.Running.run_turns.Given as goal
 
 -- what was shown so far, and then the turns that are left, are the run

@@ -6,8 +6,8 @@ use Rattle.ssa_ir.specs.Inputs.{Inputs, inputs_of}
 use Rattle.ssa_ir.specs.Lookups.{sig_of}
 use Rattle.ssa_ir.specs.Roles.{role}
 use Rattle.ssa_ir.specs.Run.{Form, State, generic, run_role, with_word, loaded_word}
-use Rattle.ssa_meaning.specs.Ran.{Ran, next_of}
-use Rattle.ssa_meaning.specs.Running.{state_of}
+use Rattle.ssa_meaning.specs.tables.Ran.{Ran, next_of}
+use Rattle.ssa_meaning.specs.tables.Running.{state_of}
 use Rattle.ssa_meaning.proofs.StepLemmas.{ran_on, ran_as, ok_as}
 use Rattle.ssa_meaning.proofs.running.Running.run_value.Goals as goal
 

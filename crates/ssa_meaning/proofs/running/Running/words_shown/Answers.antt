@@ -1,5 +1,5 @@
 use Rattle.std.proofs.Common.{take, ap}
-use Rattle.ssa_meaning.specs.Running.{words_of}
+use Rattle.ssa_meaning.specs.tables.Running.{words_of}
 use Rattle.ssa_meaning.proofs.StepLemmas.{past_end, shown_to_end}
 use Rattle.ssa_meaning.proofs.running.Running.words_shown.Goals as goal
 

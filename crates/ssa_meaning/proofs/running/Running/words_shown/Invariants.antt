@@ -1,6 +1,6 @@
 use Rattle.std.proofs.Common.{◌≡◌, ◌++◌, map, drop}
 use Rattle.ssa_ir.specs.Showing.{words_at}
-use Rattle.ssa_meaning.specs.Running.{words_of}
+use Rattle.ssa_meaning.specs.tables.Running.{words_of}
 use Rattle.ssa_meaning.proofs.running.Running.words_shown.Given as goal
 
 -- the words so far, and then those of the arguments that are left

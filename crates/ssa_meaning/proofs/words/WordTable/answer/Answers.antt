@@ -1,8 +1,8 @@
 use Rattle.std.proofs.Common.{◌∙◌, arith}
 use Rattle.ssa_ir.specs.Inputs.{answer_of}
 use Rattle.block_order.specs.Items.{values_at}
-use Rattle.ssa_meaning.specs.Puts.{puts, select_word_of}
-use Rattle.ssa_meaning.specs.Running.{words_of}
+use Rattle.ssa_meaning.specs.tables.Puts.{puts, select_word_of}
+use Rattle.ssa_meaning.specs.tables.Running.{words_of}
 use Rattle.ssa_meaning.proofs.SelectLemmas.{puts_one, puts_done, selects_put}
 use Rattle.ssa_meaning.proofs.words.WordTable.answer.Goals as goal
 

@@ -1,8 +1,8 @@
 use Rattle.std.proofs.Common.{◌≡◌, ℕ, drop}
 use Rattle.ssa_ir.specs.Inputs.{answer_of}
 use Rattle.block_order.specs.Items.{values_at}
-use Rattle.ssa_meaning.specs.Puts.{puts, select_word_of}
-use Rattle.ssa_meaning.specs.Running.{words_of, room_of}
+use Rattle.ssa_meaning.specs.tables.Puts.{puts, select_word_of}
+use Rattle.ssa_meaning.specs.tables.Running.{words_of, room_of}
 use Rattle.ssa_meaning.proofs.words.WordTable.answer.Given as goal
 
 -- with the words of the selects that are left put, all are

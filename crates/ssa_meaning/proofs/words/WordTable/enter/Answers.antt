@@ -1,8 +1,8 @@
-use Rattle.std.proofs.Common.{ℕ, ◌<◌, length, ap, sym, subst, All}
+use Rattle.std.proofs.Common.{ℕ, ◌<◌, length, sym, subst, All}
 use Rattle.gossa_base.specs.declared.ids.ValueId.{ValueId}
 use Rattle.ssa_ir.specs.declared.func.Value.{Value}
 use Rattle.ssa_ir.specs.OpKinds.{is_phi}
-use Rattle.ssa_meaning.specs.Running.{words_of, room_of}
+use Rattle.ssa_meaning.specs.tables.Running.{words_of, room_of}
 use Rattle.ssa_meaning.proofs.WordLemmas.{pairs_below, pairs_entered, word_there}
 use Rattle.ssa_meaning.proofs.words.WordTable.enter.Goals as goal
 

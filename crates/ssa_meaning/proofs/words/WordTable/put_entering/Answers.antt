@@ -1,6 +1,6 @@
 use Rattle.std.proofs.Common.{slice_index_or, ap, ◌∙◌, arith}
-use Rattle.ssa_meaning.specs.Running.{words_of}
-use Rattle.ssa_meaning.specs.Puts.{put_all}
+use Rattle.ssa_meaning.specs.tables.Running.{words_of}
+use Rattle.ssa_meaning.specs.tables.Puts.{put_all}
 use Rattle.ssa_meaning.proofs.WordLemmas.{put_one}
 use Rattle.ssa_meaning.proofs.words.WordTable.put_entering.Goals as goal
 

@@ -1,6 +1,6 @@
 use Rattle.std.proofs.Common.{◌≡◌, ℕ, drop}
-use Rattle.ssa_meaning.specs.Puts.{put_all}
-use Rattle.ssa_meaning.specs.Running.{words_of, room_of}
+use Rattle.ssa_meaning.specs.tables.Puts.{put_all}
+use Rattle.ssa_meaning.specs.tables.Running.{words_of, room_of}
 use Rattle.ssa_meaning.proofs.words.WordTable.put_entering.Given as goal
 
 -- with the pairs that are left put, all are

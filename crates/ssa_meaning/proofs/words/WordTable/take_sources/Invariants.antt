@@ -1,7 +1,7 @@
 use Rattle.std.proofs.Common.{◌≡◌, map, filter, take}
 use Rattle.ssa_ir.specs.OpKinds.{is_phi}
-use Rattle.ssa_meaning.specs.Puts.{phi_pair}
-use Rattle.ssa_meaning.specs.Running.{words_of}
+use Rattle.ssa_meaning.specs.tables.Puts.{phi_pair}
+use Rattle.ssa_meaning.specs.tables.Running.{words_of}
 use Rattle.ssa_meaning.proofs.words.WordTable.take_sources.Given as goal
 
 -- the words of the phis so far were noted

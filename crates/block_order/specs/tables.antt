@@ -1,0 +1,5 @@
+pub mod Dependencies
+pub mod ItemGraph
+pub mod Placing
+pub mod Selects
+pub mod Waiting

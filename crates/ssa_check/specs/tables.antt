@@ -1,0 +1,13 @@
+pub mod ChainLinks
+pub mod ChainTables
+pub mod EdgeTables
+pub mod LeastPlaces
+pub mod Lowest
+pub mod MemorySweeps
+pub mod MemoryTables
+pub mod ParameterTables
+pub mod PassedMemories
+pub mod PathTests
+pub mod Selects
+pub mod UndefinedTables
+pub mod Uses

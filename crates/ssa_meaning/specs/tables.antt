@@ -1,0 +1,9 @@
+pub mod Given
+pub mod MemoryChanges
+pub mod Onward
+pub mod Puts
+pub mod Ran
+pub mod Ready
+pub mod Runnable
+pub mod Running
+pub mod Symbols
