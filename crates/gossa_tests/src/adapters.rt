@@ -6,7 +6,6 @@ ghost use Rattle.std.specs.Prelude.{◌≡◌, IfOk};
 use gossa_base::{Failed, Sink, Source, StdSink, StdSource};
 use std::io;
 use std::io::{ErrorKind, Read, Write};
-use std::test::Fail;
 
 // Fails at its first call; each later one fills the whole buffer, or takes the whole piece.
 #[derive(Drop)]
@@ -43,26 +42,38 @@ impl Write for FailsOnce {
     }
 }
 
+// How many bytes are asked for or handed over, one call behind the other, and how each is answered.
+const CALLS: [(usize, Result<usize, Failed>); 3] = [
+    (10_000, Err(Failed)),
+    (10_000, Ok(10_000)),
+    (1, Ok(1)),
+];
+
 #[test]
-fn a_source_answers_what_its_reader_gives(rt: HostRuntime) -> Result<(), Fail> {
+fn a_source_answers_what_its_reader_gives(rt: HostRuntime) {
     let mut buffer = [0u8; 10_000];
     let mut source = StdSource::new(FailsOnce { failed: false });
-    assert!(rt; source.read(&mut buffer) == Err(Failed));
-    assert!(rt; source.read(&mut buffer) == Ok(10_000));
-    assert!(rt; source.read(&mut buffer[..1]) == Ok(1));
-    let mut ended = StdSource::new(b"ab".as_slice());
-    assert!(rt; ended.read(&mut buffer) == Ok(2));
-    assert!(rt; ended.read(&mut buffer) == Ok(0));
-    assert!(rt; ended.read(&mut buffer) == Ok(0));
-    Ok(())
+    for (count, answer) in CALLS.iter() {
+        assert!(rt; *count <= 10_000);
+        assert!(rt; source.read(&mut buffer[..*count]) == *answer);
+    }
 }
 
 #[test]
-fn a_sink_answers_what_its_writer_takes(rt: HostRuntime) -> Result<(), Fail> {
+fn a_source_answers_the_end(rt: HostRuntime) {
+    let mut buffer = [0u8; 10_000];
+    let mut source = StdSource::new(b"ab".as_slice());
+    for left in [2, 0, 0].iter() {
+        assert!(rt; source.read(&mut buffer) == Ok(*left));
+    }
+}
+
+#[test]
+fn a_sink_answers_what_its_writer_takes(rt: HostRuntime) {
     let piece = [7u8; 10_000];
     let mut sink = StdSink::new(FailsOnce { failed: false });
-    assert!(rt; sink.write(&piece) == Err(Failed));
-    assert!(rt; sink.write(&piece) == Ok(10_000));
-    assert!(rt; sink.write(&piece[..1]) == Ok(1));
-    Ok(())
+    for (count, answer) in CALLS.iter() {
+        assert!(rt; *count <= 10_000);
+        assert!(rt; sink.write(&piece[..*count]) == *answer);
+    }
 }

@@ -1,137 +1,175 @@
 // The text of cases: each call that reads or prints it.
 
-ghost use Rattle.std.specs.Prelude.{◌≡◌, length, IfOk};
+ghost use Rattle.std.specs.Prelude.{◌≡◌, ◌≤◌, length, IfOk};
 
-use crate::made::sig;
+use crate::made::{one, sig};
 use case_text::{CaseForm, print_case, print_cases, read_case_form, read_case_part, read_cases};
-use gossa_base::{Name, NoMemory, Sequence};
-use ssa_ir::Sigs;
+use gossa_base::{Name, NoMemory};
+use ssa_ir::{Case, Sigs};
 use ssa_lines::{LimitKind, Spelled, TextFault, TextRefusal};
 use std::alloc::Global;
-use std::test::Fail;
+
+// Lines, and what each spells: its kind, and its number or how many words it keeps.
+const LINES: [(&str, (&str, u64)); 5] = [
+    ("case f.g 007", ("case f.g", 7)),
+    (" \t", ("blank", 0)),
+    ("clobber 0xdead", ("clobber", 0xdead)),
+    ("fill 18446744073709551616", ("too large", 0)),
+    ("fill 18446744073709551616 2", ("bad", 0)),
+];
 
 #[test]
-fn keeps_what_is_spelled(rt: HostRuntime) -> Result<(), Fail> {
-    let CaseForm::Head(Spelled::Fits(head)) = form(rt.alloc(), "case f.g 007")? else {
-        return Err(Fail::new("not a head"));
-    };
-    assert!(rt; head.name.as_slice() == b"f.g".as_slice());
-    assert!(rt; head.bound == 7);
-    Ok(())
+fn knows_lines(rt: HostRuntime) {
+    for (line, spelled) in LINES.iter() {
+        assert!(rt;
+            spells(rt.alloc(), line.as_bytes()) == Ok(*spelled),
+            "for {line}"
+        );
+    }
 }
+
+// Keywords, how many words stand behind each, and how many of them are kept.
+const WORDS: [(&str, usize, u64); 15] = [
+    ("args", 0, 0),
+    ("args", 1, 1),
+    ("args", 64, 64),
+    ("args", 65, 64),
+    ("args", 100, 64),
+    ("reply", 0, 0),
+    ("reply", 1, 1),
+    ("reply", 64, 64),
+    ("reply", 65, 64),
+    ("reply", 100, 64),
+    ("junk", 0, 0),
+    ("junk", 1, 1),
+    ("junk", 64, 64),
+    ("junk", 65, 65),
+    ("junk", 100, 100),
+];
 
 #[test]
-fn knows_other_lines(rt: HostRuntime) -> Result<(), Fail> {
-    for (line, want) in [
-        (" \t", "blank"),
-        ("clobber 0xdead", "clobber"),
-        ("fill 18446744073709551616", "too large"),
-        ("fill 18446744073709551616 2", "bad"),
-    ] {
-        let form = form(rt.alloc(), line)?;
-        assert!(rt; name_of(&form) == want, "for {line}");
-    }
-    Ok(())
-}
-
-fn name_of(form: &CaseForm) -> &'static str {
-    match form {
-        CaseForm::Blank => "blank",
-        CaseForm::Clobber(Spelled::Fits(0xdead)) => "clobber",
-        CaseForm::Fill(Spelled::TooLarge) => "too large",
-        CaseForm::Bad => "bad",
-        _ => "another",
-    }
-}
-
-fn form(alloc: Global, line: &str) -> Result<CaseForm, Fail> {
-    Ok(read_case_form(alloc, line.as_bytes())?)
-}
-
-#[test]
-fn keeps_64_words(rt: HostRuntime) -> Result<(), Fail> {
-    for count in [0usize, 1, 64, 65, 100] {
+fn keeps_64_words(rt: HostRuntime) {
+    for (keyword, count, kept) in WORDS.iter() {
+        let spelled = spells_words(rt.alloc(), keyword, *count);
         assert!(rt;
-            words_kept(rt.alloc(), b"args", count)? == count.min(64),
-            "for args"
-        );
-        assert!(rt;
-            words_kept(rt.alloc(), b"reply", count)? == count.min(64),
-            "for reply"
-        );
-        assert!(rt;
-            words_kept(rt.alloc(), b"junk", count)? == count,
-            "for junk"
+            spelled == Ok((*keyword, *kept)),
+            "for {keyword} and {count} words"
         );
     }
-    Ok(())
 }
 
-// How many of so many words behind a keyword are kept.
-fn words_kept(alloc: Global, keyword: &[u8], count: usize) -> Result<usize, Fail> {
-    let mut line = Vec::from_slice(alloc, keyword)?;
+// What a line of a keyword and so many words spells.
+fn spells_words(
+    alloc: Global,
+    keyword: &str,
+    count: usize,
+) -> Result<(&'static str, u64), NoMemory> {
+    let line = line_of(alloc, keyword, count)?;
+    spells(alloc, line.as_slice())
+}
+
+fn line_of(alloc: Global, keyword: &str, count: usize) -> Result<Vec<u8>, NoMemory> {
+    let mut line = Vec::from_slice(alloc, keyword.as_bytes())?;
     for _again in 0..count {
         line.extend_from_slice(b" 9")?;
     }
-    match read_case_form(alloc, line.as_slice())? {
-        CaseForm::Args(Spelled::Fits(words))
-        | CaseForm::Reply(Spelled::Fits(words))
-        | CaseForm::Junk(Spelled::Fits(words)) => Ok(words.len()),
-        _ => Err(Fail::new("not words")),
+    Ok(line)
+}
+
+fn spells(alloc: Global, line: &[u8]) -> Result<(&'static str, u64), NoMemory> {
+    Ok(spelled(&read_case_form(alloc, line)?))
+}
+
+fn spelled(form: &CaseForm) -> (&'static str, u64) {
+    match form {
+        CaseForm::Blank => ("blank", 0),
+        CaseForm::Head(Spelled::Fits(head)) if head.name.as_slice() == b"f.g".as_slice() => {
+            ("case f.g", head.bound)
+        }
+        CaseForm::Args(Spelled::Fits(words)) => ("args", words.len() as u64),
+        CaseForm::Reply(Spelled::Fits(words)) => ("reply", words.len() as u64),
+        CaseForm::Junk(Spelled::Fits(words)) => ("junk", words.len() as u64),
+        CaseForm::Clobber(Spelled::Fits(word)) => ("clobber", *word),
+        CaseForm::Fill(Spelled::TooLarge) => ("too large", 0),
+        CaseForm::Bad => ("bad", 0),
+        _ => ("another", 0),
     }
 }
 
+const CASE_OF_G: &str = "case g 16\nmem 0x10 0fa0\n";
+
 #[test]
-fn reads_and_prints_cases(rt: HostRuntime) -> Result<(), Fail> {
-    let alloc = rt.alloc();
+fn reads_and_prints_cases(rt: HostRuntime) {
+    assert!(rt; case_is_printed(rt.alloc()) == Ok(true));
+}
+
+// Whether a case of g is printed by itself, and among cases.
+fn case_is_printed(alloc: Global) -> Result<bool, TextRefusal> {
     let sigs = two_sigs(alloc)?;
     let text = b" case\tg  0x10 \nargs\nmem 16 0fA0";
-    let want = b"case g 16\nmem 0x10 0fa0\n".as_slice();
     let cases = read_cases(alloc, text, 1, &sigs)?;
     let printed = print_cases(alloc, &cases, &sigs)?;
-    assert!(rt; printed.as_slice() == want);
-    for case in cases.as_slice() {
-        assert!(rt; case.func == 1);
-        let mut one = Vec::new(alloc);
-        print_case(&mut one, b"g", case)?;
-        assert!(rt; one.as_slice() == want);
+    match cases.as_slice() {
+        [case] => Ok(printed.as_slice() == CASE_OF_G.as_bytes() && is_case_of_g(alloc, case)?),
+        _ => Ok(false),
     }
-    Ok(())
 }
 
+fn is_case_of_g(alloc: Global, case: &Case) -> Result<bool, NoMemory> {
+    let mut text = Vec::new(alloc);
+    print_case(&mut text, b"g", case)?;
+    Ok(case.func == 1 && text.as_slice() == CASE_OF_G.as_bytes())
+}
+
+// Texts of cases, and the first fault of each, where the first line has the number 7.
+const FAULTS: [(&str, TextFault); 3] = [
+    ("case f 1\nargs\nargs", TextFault::Duplicate(9)),
+    ("case h 1000001", TextFault::Limit(LimitKind::Bound, 7)),
+    ("case f 1\ncase h 1\ncase i 1", TextFault::UnknownRef(8)),
+];
+
 #[test]
-fn counts_lines_from_the_first(rt: HostRuntime) -> Result<(), Fail> {
-    let sigs = two_sigs(rt.alloc())?;
-    for (text, want) in [
-        ("case f 1\nargs\nargs", TextFault::Duplicate(9)),
-        ("case h 1000001", TextFault::Limit(LimitKind::Bound, 7)),
-        ("case f 1\ncase h 1\ncase i 1", TextFault::UnknownRef(8)),
-    ] {
+fn counts_lines_from_the_first(rt: HostRuntime) {
+    for (text, fault) in FAULTS.iter() {
         assert!(rt; text.len() <= 1000);
-        let refusal = read_cases(rt.alloc(), text.as_bytes(), 7, &sigs).err();
-        assert!(rt; refusal == Some(TextRefusal::Fault(want)), "for {text}");
+        assert!(rt;
+            reads_cases(rt.alloc(), text.as_bytes()) == Err(TextRefusal::Fault(*fault)),
+            "for {text}"
+        );
     }
+}
+
+// Reads cases of f and g.
+fn reads_cases(alloc: Global, text: &[u8]) -> Result<(), TextRefusal>
+    requires { length text.now ≤ 1000 }
+{
+    let sigs = two_sigs(alloc)?;
+    read_cases(alloc, text, 7, &sigs)?;
     Ok(())
 }
 
 #[test]
-fn tells_the_first_unknown_function(rt: HostRuntime) -> Result<(), Fail> {
-    let alloc = rt.alloc();
-    let names = vec![in alloc; Name::from_slice(alloc, b"f")?]?;
-    let known = read_case_part(alloc, b"case f 1\ncase f 2", 7, names.as_slice())?;
-    assert!(rt; known.cases.len() == 2);
-    assert!(rt; known.unknown == None);
-    let unknown = read_case_part(alloc, b"case f 1\ncase h 1\ncase i 1", 7, names.as_slice())?;
-    assert!(rt; unknown.unknown == Some(8));
-    Ok(())
+fn tells_the_first_unknown_function(rt: HostRuntime) {
+    let two = b"case f 1\ncase f 2";
+    assert!(rt; reads_part(rt.alloc(), two) == Ok((2, None)));
+    let three = b"case f 1\ncase h 1\ncase i 1";
+    assert!(rt; reads_part(rt.alloc(), three) == Ok((3, Some(8))));
+}
+
+// How many cases of f a text has, and the first line that names another function.
+fn reads_part(alloc: Global, text: &[u8]) -> Result<(usize, Option<u32>), TextRefusal>
+    requires { length text.now ≤ 1000 }
+{
+    let names = one(alloc, Name::from_slice(alloc, b"f")?)?;
+    let part = read_case_part(alloc, text, 7, names.as_slice())?;
+    Ok((part.cases.len(), part.unknown))
 }
 
 // Two functions without parameters, f and g.
 fn two_sigs(alloc: Global) -> Result<Sigs, NoMemory>
     ensures { IfOk result (λ sigs. length sigs ≡ 2) }
 {
-    let mut sigs = Sequence::new(alloc);
-    sigs.push(sig(alloc, b"f", &[], &[])?)?;
-    sigs.push(sig(alloc, b"g", &[], &[])?)?;
+    let mut sigs = one(alloc, sig(alloc, b"f", &[])?)?;
+    sigs.push(sig(alloc, b"g", &[])?)?;
     Ok(sigs)
 }

@@ -1,18 +1,13 @@
 // Checks of units, and runs of those that meet them: each call once at its types.
 
-ghost use Rattle.std.specs.Prelude.{◌≡◌, ◌≤◌, length};
-ghost use Rattle.ssa_tables.specs.SignatureTable.{names_of};
-
-use crate::dumps::{CASES, MARKED};
-use crate::made::{checked_text, unit_of_text};
-use gossa_base::{Name, NoMemory, ValueId};
+use crate::dumps::{CANONICAL, MARKED};
+use crate::made::{dump_with_cases, has_text, unit_of_text};
+use gossa_base::ValueId;
 use ssa_check::{At, Check, CheckRefusal, Checked, Fault, check};
-use ssa_ir::{End, SsaUnit};
+use ssa_ir::{End, Shown, SsaUnit};
 use ssa_meaning::run_case;
-use ssa_tables::SignatureTable;
-use ssa_text::print_unit;
+use ssa_text::TextRefusal;
 use std::alloc::Global;
-use std::test::Fail;
 
 // The second function uses a value that stands in no block above it.
 const LATE: &str = "func f()\n\
@@ -28,120 +23,104 @@ b2: <- b1\n\
 v3 = ConstNil <*byte>\n\
 Exit v1\n";
 
+const LATE_FAULT: Fault = Fault {
+    func: 1,
+    check: Check::Undefined,
+    at: At::Value(ValueId(2)),
+};
+
 #[test]
-fn gives_back_what_meets_all_checks(rt: HostRuntime) -> Result<(), Fail> {
-    let alloc = rt.alloc();
-    let unit = unit_of_text(alloc, MARKED)?;
-    let text = print_unit(alloc, &unit)?;
-    let Ok(checked) = check(alloc, unit) else {
-        return Err(Fail::new("a check fails"));
-    };
-    assert!(rt; checked.unit().funcs.len() == 1);
-    let again = print_unit(alloc, &checked.into_unit())?;
-    assert!(rt; again.as_slice() == text.as_slice());
-    Ok(())
+fn gives_back_what_meets_all_checks(rt: HostRuntime) {
+    assert!(rt; is_judged(rt.alloc(), MARKED, None, CANONICAL) == Ok(true));
 }
 
 #[test]
-fn gives_back_what_fails_a_check(rt: HostRuntime) -> Result<(), Fail> {
-    let alloc = rt.alloc();
-    let unit = unit_of_text(alloc, LATE)?;
-    let Err((refusal, unit)) = check(alloc, unit) else {
-        return Err(Fail::new("all checks are met"));
-    };
-    let fault = Fault {
-        func: 1,
-        check: Check::Undefined,
-        at: At::Value(ValueId(2)),
-    };
-    assert!(rt; refusal == CheckRefusal::Failed(fault));
-    let text = print_unit(alloc, &unit)?;
-    assert!(rt; text.as_slice() == LATE.as_bytes());
-    Ok(())
+fn gives_back_what_fails_a_check(rt: HostRuntime) {
+    let refusal = CheckRefusal::Failed(LATE_FAULT);
+    assert!(rt; is_judged(rt.alloc(), LATE, Some(refusal), LATE) == Ok(true));
 }
+
+// Whether the unit of a text is refused so, or not at all, and given back with this canonical text.
+fn is_judged(
+    alloc: Global,
+    text: &str,
+    want: Option<CheckRefusal>,
+    canonical: &str,
+) -> Result<bool, TextRefusal> {
+    let (refusal, unit) = given_back(alloc, text)?;
+    Ok(refusal == want && has_text(alloc, &unit, canonical)?)
+}
+
+// Why a text's unit is refused, if it is, and what is given back.
+fn given_back(alloc: Global, text: &str) -> Result<(Option<CheckRefusal>, SsaUnit), TextRefusal> {
+    match check(alloc, unit_of_text(alloc, text)?) {
+        Ok(checked) => Ok((None, checked.into_unit())),
+        Err((refusal, unit)) => Ok((Some(refusal), unit)),
+    }
+}
+
+// Each check, its number and its name.
+const CHECKS: [(Check, u32, &str); 11] = [
+    (Check::Entry, 1, "Entry"),
+    (Check::Edges, 2, "Edges"),
+    (Check::PhiArity, 3, "PhiArity"),
+    (Check::Arity, 4, "Arity"),
+    (Check::Types, 5, "Types"),
+    (Check::ArgOrInit, 6, "ArgOrInit"),
+    (Check::Callee, 7, "Callee"),
+    (Check::Memory, 8, "Memory"),
+    (Check::Cycle, 9, "Cycle"),
+    (Check::Undefined, 10, "Undefined"),
+    (Check::Control, 11, "Control"),
+];
 
 #[test]
 fn checks_have_numbers_and_names(rt: HostRuntime) {
-    for (check, number, name) in [
-        (Check::Entry, 1, "Entry"),
-        (Check::Edges, 2, "Edges"),
-        (Check::PhiArity, 3, "PhiArity"),
-        (Check::Arity, 4, "Arity"),
-        (Check::Types, 5, "Types"),
-        (Check::ArgOrInit, 6, "ArgOrInit"),
-        (Check::Callee, 7, "Callee"),
-        (Check::Memory, 8, "Memory"),
-        (Check::Cycle, 9, "Cycle"),
-        (Check::Undefined, 10, "Undefined"),
-        (Check::Control, 11, "Control"),
-    ] {
-        assert!(rt; check.number() == number);
-        assert!(rt; check.name() == name.as_bytes(), "for {name}");
+    for (check, number, name) in CHECKS.iter() {
+        assert!(rt;
+            check.number() == *number && check.name() == name.as_bytes(),
+            "for {name}"
+        );
     }
 }
+
+// What a case shows: how many calls, how it ends, and the first word that it returns, 0 where there is none.
+type CaseEnd = (usize, &'static str, u64);
 
 #[test]
-fn signatures_are_looked_up(rt: HostRuntime) -> Result<(), Fail> {
-    let alloc = rt.alloc();
-    let unit = unit_of_text(alloc, MARKED)?;
-    let table = SignatureTable::new(alloc, &unit)?;
-    for (name, want) in [
-        (b"runtime.panicIndex".as_slice(), Some(2)),
-        (b"main.sum".as_slice(), Some(3)),
-        (b"main.su".as_slice(), None),
-    ] {
-        assert!(rt; !name.is_empty() && name.len() <= 100);
-        assert!(rt; params_of(alloc, &unit, &table, name)? == want);
-    }
-    Ok(())
+fn a_case_shows_its_calls_and_its_end(rt: HostRuntime) {
+    assert!(rt; shown_case(rt.alloc(), 0) == Ok((0, "returned", 7)));
+    assert!(rt; shown_case(rt.alloc(), 2) == Ok((1, "exited", 0)));
 }
 
-// How many parameters the signature of this name has; none where there is no such signature.
-fn params_of(
-    alloc: Global,
-    unit: &SsaUnit,
-    table: &SignatureTable,
-    name: &[u8],
-) -> Result<Option<usize>, NoMemory>
-    requires some { 1 ≤ length name.now }
-    requires few { length name.now ≤ 100 }
-    requires table { table.now ≡ names_of unit.now }
-{
-    let name = Name::from_slice(alloc, name)?;
-    match table.sig(unit, &name) {
-        Some(sig) => Ok(Some(sig.params.len())),
-        None => Ok(None),
+// What the dump's case of this number shows.
+fn shown_case(alloc: Global, number: usize) -> Result<CaseEnd, TextRefusal> {
+    let text = dump_with_cases(alloc)?;
+    match check(alloc, unit_of_text(alloc, text.as_str())?) {
+        Ok(checked) => case_end(alloc, &checked, number),
+        Err(_) => Ok((0, "refused", 0)),
     }
 }
 
-#[test]
-fn a_case_shows_its_calls_and_its_end(rt: HostRuntime) -> Result<(), Fail> {
-    let alloc = rt.alloc();
-    let checked = checked_cases(alloc)?;
-    assert!(rt; shown_of(alloc, &checked, 0)? == (0, Some(7)));
-    assert!(rt; shown_of(alloc, &checked, 2)? == (1, None));
-    Ok(())
-}
-
-// The dump with its cases.
-fn checked_cases(alloc: Global) -> Result<Checked, Fail> {
-    let text = format!(in alloc; "{MARKED}{CASES}")?;
-    checked_text(alloc, text.as_str())
-}
-
-// How many calls the case of this number shows, and the first word that it returns, none where it exits.
-fn shown_of(alloc: Global, checked: &Checked, number: usize) -> Result<(usize, Option<u64>), Fail> {
+// What a case of a unit of one function shows.
+fn case_end(alloc: Global, checked: &Checked, number: usize) -> Result<CaseEnd, TextRefusal> {
     let unit = checked.unit();
     match unit.cases.as_slice().get(number) {
-        Some(case) if (case.func as usize) < unit.funcs.len() => {
-            let shown = run_case(alloc, unit, case)?;
-            let calls = shown.calls.len();
-            match &shown.end {
-                End::Returned(words, _) => Ok((calls, words.as_slice().first().copied())),
-                End::Exited(_) => Ok((calls, None)),
-                _ => Err(Fail::new("no end")),
-            }
+        Some(case) if unit.funcs.len() == 1 && case.func == 0 => {
+            Ok(end_of(&run_case(alloc, unit, case)?))
         }
-        _ => Err(Fail::new("no case")),
+        _ => Ok((0, "no case", 0)),
+    }
+}
+
+fn end_of(shown: &Shown) -> CaseEnd {
+    let calls = shown.calls.len();
+    match &shown.end {
+        End::Returned(words, _) => match words.as_slice() {
+            [] => (calls, "no word", 0),
+            [word, ..] => (calls, "returned", *word),
+        },
+        End::Exited(_) => (calls, "exited", 0),
+        _ => (calls, "another", 0),
     }
 }

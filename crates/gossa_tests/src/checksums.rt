@@ -3,6 +3,7 @@
 
 use arm64_ops::eval;
 use ssa_ir::Op;
+use std::process::Abort;
 
 pub(crate) const CORNERS: [u64; 16] = [
     0,
@@ -70,7 +71,14 @@ pub(crate) fn one_word() -> Over<'static> {
     }
 }
 
-pub(crate) fn checksum(op: Op, over: Over<'_>) -> u64 {
+// Each op has its checksum over these.
+pub(crate) fn check_ops(rt: &impl Abort, over: Over<'_>, rows: &[(Op, u64)]) {
+    for (op, want) in rows {
+        assert!(rt; checksum(*op, over) == *want, "for {}", op.name());
+    }
+}
+
+fn checksum(op: Op, over: Over<'_>) -> u64 {
     let mut sum = 0;
     for number in over.numbers {
         sum = over_firsts(sum, op, number.cast_signed(), over);

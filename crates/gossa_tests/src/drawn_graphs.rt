@@ -7,8 +7,6 @@ ghost use Rattle.std.specs.List.{All};
 use gossa_base::NoMemory;
 use graphs::{Edge, Graph, Named, lowest_by_ranks, lowest_on_loop, ranks};
 use std::alloc::Global;
-use std::process::Abort;
-use std::test::Fail;
 
 // So many nodes, edges between them, and names of them.
 #[derive(Drop)]
@@ -79,63 +77,65 @@ impl Drawn {
     }
 }
 
-// Ranks answer for a graph of so many nodes and drawn edges.
-fn check_drawn(
-    rt: &(impl Abort + AllocGlobal),
-    seed: u64,
-    nodes: u32,
-    count: usize,
-) -> Result<(), NoMemory>
-    requires { 1 ≤ nodes }
-{
-    let alloc = rt.alloc();
-    let mut drawn = Drawn::new(alloc, nodes as usize);
-    drawn.add_edges(seed, count)?;
-    drawn.add_names(nodes)?;
-    let edges = drawn.edges.as_slice();
-    let graph = Graph::new(alloc, drawn.nodes, edges)?;
-    let ranks = ranks(alloc, &graph, edges)?;
-    let shown = lowest_by_ranks(alloc, &graph, ranks.as_slice(), drawn.names.as_slice())?;
-    assert!(rt;
-        shown.is_some(),
-        "{nodes} nodes and {count} edges of {seed}"
-    );
-    Ok(())
+#[test]
+fn ranks_answer(rt: HostRuntime) {
+    for nodes in 1..13 {
+        assert!(rt;
+            first_without(rt.alloc(), nodes) == Ok(None),
+            "for {nodes} nodes"
+        );
+    }
 }
 
-// Ranks answer for graphs of so many nodes, from no edge up to many.
-fn check_size(rt: &(impl Abort + AllocGlobal), nodes: u32) -> Result<(), NoMemory>
+// From how many edges on ranks don't answer for graphs of so many nodes and none to 39 drawn edges.
+fn first_without(alloc: Global, nodes: u32) -> Result<Option<usize>, NoMemory>
     requires { 1 ≤ nodes }
 {
     for count in 0..40 {
-        check_drawn(rt, count as u64, nodes, count)?;
+        let drawn = draw(alloc, count as u64, nodes, count)?;
+        if !is_answered(alloc, &drawn)? {
+            return Ok(Some(count));
+        }
     }
-    Ok(())
+    Ok(None)
+}
+
+fn draw(alloc: Global, seed: u64, nodes: u32, count: usize) -> Result<Drawn, NoMemory>
+    requires { 1 ≤ nodes }
+{
+    let mut drawn = Drawn::new(alloc, nodes as usize);
+    drawn.add_edges(seed, count)?;
+    drawn.add_names(nodes)?;
+    Ok(drawn)
+}
+
+fn is_answered(alloc: Global, drawn: &Drawn) -> Result<bool, NoMemory> {
+    let edges = drawn.edges.as_slice();
+    let graph = Graph::new(alloc, drawn.nodes, edges)?;
+    let ranks = ranks(alloc, &graph, edges)?;
+    Ok(lowest_by_ranks(alloc, &graph, ranks.as_slice(), drawn.names.as_slice())?.is_some())
 }
 
 #[test]
-fn ranks_answer(rt: HostRuntime) -> Result<(), Fail> {
-    for nodes in 1..13 {
-        check_size(&rt, nodes)?;
-    }
-    Ok(())
-}
-
-#[test]
-fn the_lowest_name_on_a_loop_is_told(rt: HostRuntime) -> Result<(), Fail> {
-    let alloc = rt.alloc();
+fn the_lowest_name_on_a_loop_is_told(rt: HostRuntime) {
     let edges = [edge(0, 1), edge(1, 2), edge(2, 1), edge(2, 3)];
     let names = [named(1, 7), named(2, 4), named(3, 2), named(0, 1)];
-    let Some(lowest) = lowest_on_loop(alloc, 4, &edges, &names)? else {
-        return Err(Fail::new("no name"));
-    };
-    assert!(rt; (lowest.node, lowest.number) == (2, 4));
-    let none = lowest_on_loop(alloc, 4, &edges[..2], &names)?;
-    assert!(rt; none.is_none());
-    let graph = Graph::new(alloc, 4, &edges)?;
-    assert!(rt; graph.len() == 4);
-    assert!(rt; graph.targets(2) == [1, 3].as_slice());
-    Ok(())
+    assert!(rt; lowest_on_loop(rt.alloc(), 4, &edges, &names) == Ok(Some(named(2, 4))));
+    assert!(rt; lowest_on_loop(rt.alloc(), 4, &edges[..2], &names) == Ok(None));
+}
+
+#[test]
+fn edges_have_targets(rt: HostRuntime) {
+    let edges = [edge(0, 1), edge(1, 2), edge(2, 1), edge(2, 3)];
+    assert!(rt; has_targets(rt.alloc(), &edges) == Ok(true));
+}
+
+// Whether a graph of these four edges has four nodes, and two of them lead from node 2.
+fn has_targets(alloc: Global, edges: &[Edge]) -> Result<bool, NoMemory>
+    requires { All (λ e. (e.source < 4) × (e.target < 4)) edges.now }
+{
+    let graph = Graph::new(alloc, 4, edges)?;
+    Ok(graph.len() == 4 && graph.targets(2) == [1, 3].as_slice())
 }
 
 fn edge(source: usize, target: usize) -> Edge

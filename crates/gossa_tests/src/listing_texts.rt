@@ -2,77 +2,104 @@
 
 ghost use Rattle.std.specs.Prelude.{◌≡◌, false, [], ◌∷◌, IfOk};
 
-use crate::made::{sig, text_of};
+use crate::made::{one, prints, sig};
 use gossa_base::{BlockId, Name, NoMemory, Sequence, ValueId};
-use listing::{Bits, Code, Line, Listing, Map, Maps, Names, Note, Place};
+use listing::{Code, Line, Listing, Map, Maps, Names, Note, Place};
 use ssa_ir::{CondCode, Scalar};
 use std::alloc::Global;
-use std::test::Fail;
+
+const OTHER_FORMS: &str =
+    "TEXT k(int64, int64, int64, int64, int64, int64), frame=48, out=2, ptr=1, scalar=1, regs=4\n\
+MAP 0 args=- locals=1\n\
+MAP 1 args=10 locals=0\n\
+e2:\n\
+b2:\n\
+MOVD R0, 8(RSP) // args\n\
+MOVD R0, 24(RSP)\n\
+MOVD R1, 32(RSP)\n\
+MOVD 8(FP), R0 // results\n\
+MOVD $-7, R2 // load v9\n\
+MOVD $s(SB), R3 // load v8\n\
+MOVD R0,  // edge\n\
+NILCHECK R0 // v4\n\
+TBNZ $0, R1, b2\n\
+TBZ $0, R1, b2\n\
+JMP b2\n\
+CALL g(SB), map=1 // v3\n\
+MOVD R27, R1 // edge\n\
+EXIT\n";
 
 #[test]
-fn prints_each_other_form(rt: HostRuntime) -> Result<(), Fail> {
-    let alloc = rt.alloc();
-    let mut listing = listing(alloc, other_code(alloc)?, 1, 1);
-    listing.maps = maps(alloc)?;
-    let want =
-        "TEXT k(int64, int64, int64, int64, int64, int64), frame=48, out=2, ptr=1, scalar=1, regs=4\n\
-        MAP 0 args=- locals=1\n\
-        MAP 1 args=10 locals=0\n\
-        e2:\n\
-        b2:\n\
-        MOVD R0, 8(RSP) // args\n\
-        MOVD R0, 24(RSP)\n\
-        MOVD R1, 32(RSP)\n\
-        MOVD 8(FP), R0 // results\n\
-        MOVD $-7, R2 // load v9\n\
-        MOVD $s(SB), R3 // load v8\n\
-        MOVD R0,  // edge\n\
-        NILCHECK R0 // v4\n\
-        TBNZ $0, R1, b2\n\
-        TBZ $0, R1, b2\n\
-        JMP b2\n\
-        CALL g(SB), map=1 // v3\n\
-        MOVD R27, R1 // edge\n\
-        EXIT\n";
-    assert!(rt; text_of(alloc, &listing)?.as_slice() == want.as_bytes());
-    Ok(())
+fn prints_each_other_form(rt: HostRuntime) {
+    assert!(rt; other_forms_are_printed(rt.alloc()) == Ok(true));
 }
 
-#[test]
-fn prints_each_condition(rt: HostRuntime) -> Result<(), Fail> {
-    let alloc = rt.alloc();
-    let listing = listing(alloc, condition_code(alloc)?, 0, 0);
-    let want = "TEXT k(), frame=0, out=0, ptr=0, scalar=0, regs=24\n\
-        b3:\nBEQ b3\nBNE b3\nBLT b3\nBLE b3\nBGT b3\nBGE b3\nBLO b3\nBLS b3\nBHI b3\nBHS b3\n";
-    assert!(rt; text_of(alloc, &listing)?.as_slice() == want.as_bytes());
-    Ok(())
+fn other_forms_are_printed(alloc: Global) -> Result<bool, NoMemory> {
+    let code = other_code(alloc)?;
+    let maps = maps(alloc)?;
+    let listing = Listing {
+        code,
+        ptr: 1,
+        scalar: 1,
+        maps,
+    };
+    prints(alloc, &listing, OTHER_FORMS)
 }
 
+const CONDITIONS: &str = "TEXT k(), frame=0, out=0, ptr=0, scalar=0, regs=24\n\
+b3:\n\
+BEQ b3\n\
+BNE b3\n\
+BLT b3\n\
+BLE b3\n\
+BGT b3\n\
+BGE b3\n\
+BLO b3\n\
+BLS b3\n\
+BHI b3\n\
+BHS b3\n";
+
 #[test]
-fn frames_have_sizes(rt: HostRuntime) -> Result<(), Fail> {
-    let alloc = rt.alloc();
-    for (calls, out, ptr, scalar, want) in [
-        (false, 0, 0, 0, 0),
-        (true, 0, 0, 0, 16),
-        (false, 0, 0, 1, 16),
-        (true, 1, 1, 0, 32),
-        (false, 0, 1, 2, 32),
-        (true, 2, 1, 1, 48),
-    ] {
-        let code = if calls {
-            call_code(alloc, out)?
-        } else {
-            leaf_code(alloc, out)?
-        };
-        let listing = listing(alloc, code, ptr, scalar);
-        assert!(rt; listing.frame_size() == want, "{out}, {ptr}, {scalar}");
+fn prints_each_condition(rt: HostRuntime) {
+    assert!(rt; conditions_are_printed(rt.alloc()) == Ok(true));
+}
+
+fn conditions_are_printed(alloc: Global) -> Result<bool, NoMemory> {
+    let code = condition_code(alloc)?;
+    prints(alloc, &bare(alloc, code, 0, 0), CONDITIONS)
+}
+
+// Whether a function calls, its outgoing words, its pointer words, its scalar words, and the size of its frame.
+const FRAMES: [(bool, u32, u32, u32, u64); 6] = [
+    (false, 0, 0, 0, 0),
+    (true, 0, 0, 0, 16),
+    (false, 0, 0, 1, 16),
+    (true, 1, 1, 0, 32),
+    (false, 0, 1, 2, 32),
+    (true, 2, 1, 1, 48),
+];
+
+#[test]
+fn frames_have_sizes(rt: HostRuntime) {
+    for (calls, out, ptr, scalar, want) in FRAMES.iter() {
+        let size = frame_of(rt.alloc(), *calls, *out, *ptr, *scalar);
+        assert!(rt; size == Ok(*want), "{out}, {ptr}, {scalar}");
     }
-    Ok(())
+}
+
+fn frame_of(alloc: Global, calls: bool, out: u32, ptr: u32, scalar: u32) -> Result<u64, NoMemory> {
+    let code = if calls {
+        call_code(alloc, out)?
+    } else {
+        leaf_code(alloc, out)?
+    };
+    Ok(bare(alloc, code, ptr, scalar).frame_size())
 }
 
 // A function with a line of each form that no listing of a sum has.
 fn other_code(alloc: Global) -> Result<Code, NoMemory> {
-    let sig = sig(alloc, b"k", &[Scalar::I64; 6], &[])?;
+    let sig = sig(alloc, b"k", &[Scalar::I64; 6])?;
+    let syms = syms(alloc)?;
     let split = BlockId { split: true, n: 2 };
     let lines = vec![in alloc;
         Line::Label(split, Sequence::new(alloc)),
@@ -95,7 +122,7 @@ fn other_code(alloc: Global) -> Result<Code, NoMemory> {
     Ok(Code {
         sig,
         regs: 4,
-        syms: syms(alloc)?,
+        syms,
         lines: Sequence::from_vec(lines),
         out: 2,
         arg_words: 2,
@@ -104,7 +131,7 @@ fn other_code(alloc: Global) -> Result<Code, NoMemory> {
 
 // A function that branches on each condition.
 fn condition_code(alloc: Global) -> Result<Code, NoMemory> {
-    let sig = sig(alloc, b"k", &[], &[])?;
+    let sig = sig(alloc, b"k", &[])?;
     let lines = vec![in alloc;
         Line::Label(id(3), Sequence::new(alloc)),
         Line::Branch(CondCode::EQ, id(3)),
@@ -130,13 +157,12 @@ fn condition_code(alloc: Global) -> Result<Code, NoMemory> {
 
 // A function that returns, with so many outgoing words.
 fn leaf_code(alloc: Global, out: u32) -> Result<Code, NoMemory> {
-    let sig = sig(alloc, b"k", &[], &[])?;
-    let lines = vec![in alloc; Line::Ret]?;
+    let lines = one(alloc, Line::Ret)?;
     Ok(Code {
-        sig,
+        sig: sig(alloc, b"k", &[])?,
         regs: 24,
         syms: Sequence::new(alloc),
-        lines: Sequence::from_vec(lines),
+        lines,
         out,
         arg_words: 0,
     })
@@ -144,14 +170,13 @@ fn leaf_code(alloc: Global, out: u32) -> Result<Code, NoMemory> {
 
 // A function that calls, with so many outgoing words.
 fn call_code(alloc: Global, out: u32) -> Result<Code, NoMemory> {
-    let sig = sig(alloc, b"k", &[], &[])?;
-    let names = vec![in alloc; Name::from_slice(alloc, b"g")?]?;
-    let lines = vec![in alloc; Line::Call(0, 0, Note::Bare)]?;
+    let syms = one(alloc, Name::from_slice(alloc, b"g")?)?;
+    let lines = one(alloc, Line::Call(0, 0, Note::Bare))?;
     Ok(Code {
-        sig,
+        sig: sig(alloc, b"k", &[])?,
         regs: 24,
-        syms: Sequence::from_vec(names),
-        lines: Sequence::from_vec(lines),
+        syms,
+        lines,
         out,
         arg_words: 0,
     })
@@ -160,27 +185,23 @@ fn call_code(alloc: Global, out: u32) -> Result<Code, NoMemory> {
 fn syms(alloc: Global) -> Result<Names, NoMemory>
     ensures { IfOk result (λ syms. syms ≡ (115 ∷ []) ∷ (103 ∷ []) ∷ []) }
 {
-    let mut syms = Sequence::new(alloc);
-    syms.push(Name::from_slice(alloc, b"s")?)?;
+    let mut syms = one(alloc, Name::from_slice(alloc, b"s")?)?;
     syms.push(Name::from_slice(alloc, b"g")?)?;
     Ok(syms)
 }
 
 fn maps(alloc: Global) -> Result<Maps, NoMemory> {
-    let mut maps = Sequence::new(alloc);
-    maps.push(Map {
-        args: Sequence::new(alloc),
-        locals: bits(alloc, &[true])?,
-    })?;
-    maps.push(Map {
-        args: bits(alloc, &[true, false])?,
-        locals: bits(alloc, &[false])?,
-    })?;
+    let mut maps = one(alloc, map(alloc, &[], &[true])?)?;
+    maps.push(map(alloc, &[true, false], &[false])?)?;
     Ok(maps)
 }
 
-fn bits(alloc: Global, bits: &[bool]) -> Result<Bits, NoMemory> {
-    Ok(Sequence::from_vec(Vec::from_slice(alloc, bits)?))
+fn map(alloc: Global, args: &[bool], locals: &[bool]) -> Result<Map, NoMemory> {
+    let args = Sequence::from_vec(Vec::from_slice(alloc, args)?);
+    Ok(Map {
+        args,
+        locals: Sequence::from_vec(Vec::from_slice(alloc, locals)?),
+    })
 }
 
 fn id(n: u32) -> BlockId
@@ -190,7 +211,7 @@ fn id(n: u32) -> BlockId
 }
 
 // A listing with no maps.
-fn listing(alloc: Global, code: Code, ptr: u32, scalar: u32) -> Listing {
+fn bare(alloc: Global, code: Code, ptr: u32, scalar: u32) -> Listing {
     Listing {
         code,
         ptr,

@@ -1,11 +1,10 @@
 // Each op on a line of its own, as a unit prints it: its name, its brackets or braces, and its arguments.
 
-use crate::made::{block, unit_of_block, word};
-use gossa_base::{Name, NoMemory, ValueId};
-use ssa_ir::{Arity, Block, Kind, Op, Scalar, Value, op_row};
-use ssa_text::print_unit;
+use crate::made::{has_text, one, sig};
+use gossa_base::{BlockId, Name, NoMemory, Sequence, ValueId};
+use ssa_ir::{Args, Arity, Block, Func, Kind, Op, Scalar, SsaUnit, Ty, Value, Values, op_row};
+use ssa_text::TextRefusal;
 use std::alloc::Global;
-use std::test::Fail;
 
 // Each op's line, for a value of type int64 with the number 1, the symbol g and the element type uint8: what stands in
 // brackets or braces, and as many arguments as it takes, four where it takes any number.
@@ -210,40 +209,87 @@ LoweredNilCheck <int64> v1 v2\n\
 CALLstatic <int64> {g} v1 v2 v3 v4";
 
 #[test]
-fn prints_every_op(rt: HostRuntime) -> Result<(), Fail> {
-    let alloc = rt.alloc();
+fn prints_every_op(rt: HostRuntime) {
     assert!(rt; OP_LINES.lines().count() == 198);
-    let mut block = block(alloc, 1, &[], Kind::Plain, None, &[1])?;
-    for line in OP_LINES.lines() {
-        push_op(alloc, &mut block, line)?;
-    }
-    let unit = unit_of_block(alloc, block)?;
+    assert!(rt; ops_are_printed(rt.alloc()) == Ok(true));
+}
+
+fn ops_are_printed(alloc: Global) -> Result<bool, TextRefusal> {
+    let want = text_of_ops(alloc)?;
+    let unit = unit_of_ops(alloc)?;
+    has_text(alloc, &unit, want.as_str())
+}
+
+fn text_of_ops(alloc: Global) -> Result<String, NoMemory> {
     let lines = OP_LINES.replace(alloc, "\n", "\nv7 = ")?;
-    let want = format!(in alloc; "func f()\nb1:\nv7 = {lines}\nPlain -> b1\n")?;
-    assert!(rt; print_unit(alloc, &unit)?.as_slice() == want.as_bytes());
-    Ok(())
+    Ok(format!(in alloc; "func f()\nb1:\nv7 = {lines}\nPlain -> b1\n")?)
+}
+
+// A unit of one function of one block, which goes back to itself.
+fn unit_of_ops(alloc: Global) -> Result<SsaUnit, NoMemory> {
+    let block = block_of_ops(alloc)?;
+    let func = func_of(alloc, block)?;
+    Ok(SsaUnit {
+        sigs: Sequence::new(alloc),
+        funcs: one(alloc, func)?,
+        cases: Sequence::new(alloc),
+    })
+}
+
+fn func_of(alloc: Global, block: Block) -> Result<Func, NoMemory> {
+    let blocks = one(alloc, block)?;
+    Ok(Func {
+        sig: sig(alloc, b"f", &[])?,
+        blocks,
+    })
+}
+
+fn block_of_ops(alloc: Global) -> Result<Block, NoMemory> {
+    let id = BlockId { split: false, n: 1 };
+    let succs = one(alloc, id)?;
+    Ok(Block {
+        id,
+        preds: Sequence::new(alloc),
+        values: values_of_ops(alloc)?,
+        kind: Kind::Plain,
+        control: None,
+        succs,
+    })
+}
+
+fn values_of_ops(alloc: Global) -> Result<Values, NoMemory> {
+    let mut values = Sequence::new(alloc);
+    for line in OP_LINES.lines() {
+        push_op(alloc, &mut values, line)?;
+    }
+    Ok(values)
 }
 
 // A value of the op that this line names.
-fn push_op(alloc: Global, block: &mut Block, line: &str) -> Result<(), NoMemory> {
+fn push_op(alloc: Global, values: &mut Values, line: &str) -> Result<(), NoMemory> {
     let name = line.split(' ').next().unwrap_or("");
-    if let Some(op) = Op::named(name.as_bytes()) {
-        block.values.push(full_value(alloc, op)?)?;
+    match Op::named(name.as_bytes()) {
+        Some(op) => values.push(full_value(alloc, op)?),
+        None => Ok(()),
     }
-    Ok(())
 }
+
+const IDS: [ValueId; 4] = [ValueId(1), ValueId(2), ValueId(3), ValueId(4)];
 
 // A value with all that a value may have, and as many arguments as its op takes, four where it takes any number.
 fn full_value(alloc: Global, op: Op) -> Result<Value, NoMemory> {
     let count = match op_row(op).arity {
-        Arity::Exact(count) => count,
+        Arity::Exact(count) => count.min(4) as usize,
         Arity::Any => 4,
     };
-    let mut value = word(alloc, 7, op, 1, &[])?;
-    for number in 0..count {
-        value.args.push(ValueId(number + 1))?;
-    }
-    value.sym = Some(Name::from_slice(alloc, b"g")?);
-    value.elem = Some(Scalar::U8);
-    Ok(value)
+    let args = Args::from_slice(alloc, &IDS[..count])?;
+    Ok(Value {
+        id: ValueId(7),
+        op,
+        ty: Ty::One(Scalar::I64),
+        aux: 1,
+        sym: Some(Name::from_slice(alloc, b"g")?),
+        elem: Some(Scalar::U8),
+        args,
+    })
 }

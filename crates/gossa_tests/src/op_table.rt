@@ -1,77 +1,76 @@
 // The table of ops: names, rows, and what each op is to a run. Every op's name and row stand in `op_lines.rt` as well.
 
-use crate::made::text_of;
-use gossa_base::NoMemory;
+use crate::made::prints;
 use ssa_ir::{
     Access, Arity, AuxRule, Gives, Op, Role, Scalar, Takes, Ty, Width, WidthPair, facts_of, op_row,
     role_of,
 };
-use std::test::Fail;
+
+const NAMES: [(Op, &str); 10] = [
+    (Op::InitMem, "InitMem"),
+    (Op::Const(Width::W8), "Const8"),
+    (Op::DivU(Width::W32), "Div32u"),
+    (Op::RshU(Width::W16), "Rsh16Ux64"),
+    (Op::SignExt(WidthPair::W8W64), "SignExt8to64"),
+    (Op::Trunc(WidthPair::W16W32), "Trunc32to16"),
+    (Op::StaticLECall, "StaticLECall"),
+    (Op::Arm64ADD, "ADD"),
+    (Op::Arm64MOVBUload, "MOVBUload"),
+    (Op::Arm64GreaterEqualU, "GreaterEqualU"),
+];
 
 #[test]
-fn ops_have_names(rt: HostRuntime) -> Result<(), Fail> {
-    for (op, want) in [
-        (Op::InitMem, "InitMem"),
-        (Op::Const(Width::W8), "Const8"),
-        (Op::DivU(Width::W32), "Div32u"),
-        (Op::RshU(Width::W16), "Rsh16Ux64"),
-        (Op::SignExt(WidthPair::W8W64), "SignExt8to64"),
-        (Op::Trunc(WidthPair::W16W32), "Trunc32to16"),
-        (Op::StaticLECall, "StaticLECall"),
-        (Op::Arm64ADD, "ADD"),
-        (Op::Arm64MOVBUload, "MOVBUload"),
-        (Op::Arm64GreaterEqualU, "GreaterEqualU"),
-    ] {
-        assert!(rt;
-            text_of(rt.alloc(), &op)?.as_slice() == want.as_bytes(),
-            "for {want}"
-        );
-        assert!(rt; op_of(want.as_bytes()) == Some(want), "for {want}");
+fn ops_have_names(rt: HostRuntime) {
+    for (op, name) in NAMES.iter() {
+        assert!(rt; prints(rt.alloc(), op, name) == Ok(true), "for {name}");
+        assert!(rt; name_of(name) == Some(*name), "for {name}");
     }
-    for unknown in ["", "Add", "Add64 ", "Hmul64", "add64", "zzz"] {
-        assert!(rt; op_of(unknown.as_bytes()) == None, "for {unknown}");
+}
+
+#[test]
+fn other_words_name_no_op(rt: HostRuntime) {
+    for unknown in ["", "Add", "Add64 ", "Hmul64", "add64", "zzz"].iter() {
+        assert!(rt; name_of(unknown) == None, "for {unknown}");
     }
-    Ok(())
 }
 
 // The name of the op that has a name; no two ops have the same.
-fn op_of(name: &[u8]) -> Option<&'static str> {
-    let op = Op::named(name)?;
+fn name_of(name: &str) -> Option<&'static str> {
+    let op = Op::named(name.as_bytes())?;
     Some(op.name())
 }
 
 #[test]
 fn ops_have_rows(rt: HostRuntime) {
     let store = op_row(Op::Store);
-    assert!(rt; store.arity == Arity::Exact(3));
-    assert!(rt; store.aux == AuxRule::Elem);
+    assert!(rt; store.arity == Arity::Exact(3) && store.aux == AuxRule::Elem);
     assert!(rt; store.makes_mem && !store.reads_mem);
     let phi = op_row(Op::Phi);
-    assert!(rt; phi.arity == Arity::Any);
-    assert!(rt; phi.aux == AuxRule::Nothing);
+    assert!(rt; phi.arity == Arity::Any && phi.aux == AuxRule::Nothing);
     assert!(rt; op_row(Op::Arm64MOVDload).reads_mem);
     assert!(rt; op_row(Op::Mod(Width::W8)).aux == AuxRule::Dropped);
 }
 
+const ROLES: [(Op, Role, bool); 13] = [
+    (Op::Add(Width::W8), Role::Computes, false),
+    (Op::Arg, Role::TakesParameter, false),
+    (Op::Addr, Role::TakesAddress, false),
+    (Op::Load, Role::Loads, false),
+    (Op::Store, Role::Stores, false),
+    (Op::NilCheck, Role::ChecksNil, false),
+    (Op::StaticLECall, Role::Calls, false),
+    (Op::Phi, Role::Rests, false),
+    (Op::Arm64ADD, Role::Computes, true),
+    (Op::Arm64CMPconst, Role::Compares, true),
+    (Op::Arm64MOVDaddr, Role::TakesAddress, true),
+    (Op::Arm64MOVBload, Role::Loads, true),
+    (Op::Arm64CALLstatic, Role::Calls, true),
+];
+
 #[test]
 fn ops_have_roles(rt: HostRuntime) {
-    for (op, role, machine) in [
-        (Op::Add(Width::W8), Role::Computes, false),
-        (Op::Arg, Role::TakesParameter, false),
-        (Op::Addr, Role::TakesAddress, false),
-        (Op::Load, Role::Loads, false),
-        (Op::Store, Role::Stores, false),
-        (Op::NilCheck, Role::ChecksNil, false),
-        (Op::StaticLECall, Role::Calls, false),
-        (Op::Phi, Role::Rests, false),
-        (Op::Arm64ADD, Role::Computes, true),
-        (Op::Arm64CMPconst, Role::Compares, true),
-        (Op::Arm64MOVDaddr, Role::TakesAddress, true),
-        (Op::Arm64MOVBload, Role::Loads, true),
-        (Op::Arm64CALLstatic, Role::Calls, true),
-    ] {
-        assert!(rt; role_of(op) == role);
-        assert!(rt; op.is_machine() == machine);
+    for (op, role, machine) in ROLES.iter() {
+        assert!(rt; role_of(*op) == *role && op.is_machine() == *machine);
     }
 }
 

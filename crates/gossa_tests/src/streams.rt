@@ -1,112 +1,154 @@
 // The outside in pieces: whole reads and writes over sources and sinks in memory, and over the standard streams of a
 // process.
 
+ghost use Rattle.std.specs.Prelude.{◌≤◌};
+
 use gossa_base::{
-    Failed, MemSink, MemSource, ReadRefusal, Sink, Source, StdSink, StdSource, read_all, write_all,
+    Failed, MemSink, MemSource, NoMemory, ReadRefusal, Sink, Source, StdSink, StdSource, read_all,
+    write_all,
 };
+use std::alloc::Global;
 use std::test::Fail;
 
-#[test]
-fn reads_all_up_to_the_limit(rt: HostRuntime) -> Result<(), Fail> {
-    let text = b"abcdef".as_slice();
-    for (piece, limit) in [(1, 6), (4, 6), (9, 7), (4, usize::MAX)] {
-        assert!(rt; piece >= 1);
-        let mut source = MemSource::new(rt.alloc(), text, piece, &[])?;
-        let bytes = read_all(rt.alloc(), &mut source, limit)?;
-        assert!(rt; bytes.as_slice() == text, "piece {piece}, limit {limit}");
-    }
-    for (piece, limit) in [(1, 5), (4, 5), (9, 0)] {
-        assert!(rt; piece >= 1);
-        let mut source = MemSource::new(rt.alloc(), text, piece, &[])?;
-        let refusal = read_all(rt.alloc(), &mut source, limit).err();
-        assert!(rt;
-            refusal == Some(ReadRefusal::TooLong),
-            "piece {piece}, limit {limit}"
-        );
-    }
-    Ok(())
-}
+// Texts, the most bytes of one read, the limit, and whether all is read or why not.
+const READINGS: [(&[u8], usize, usize, Result<bool, ReadRefusal>); 9] = [
+    (b"abcdef", 1, 6, Ok(true)),
+    (b"abcdef", 4, 6, Ok(true)),
+    (b"abcdef", 9, 7, Ok(true)),
+    (b"abcdef", 4, usize::MAX, Ok(true)),
+    (b"abcdef", 1, 5, Err(ReadRefusal::TooLong)),
+    (b"abcdef", 4, 5, Err(ReadRefusal::TooLong)),
+    (b"abcdef", 9, 0, Err(ReadRefusal::TooLong)),
+    (b"", 4, 0, Ok(true)),
+    (b"", 4, 6, Ok(true)),
+];
 
 #[test]
-fn reads_the_empty_input(rt: HostRuntime) -> Result<(), Fail> {
-    for limit in [0, 6] {
-        let mut source = MemSource::new(rt.alloc(), &[], 4, &[])?;
-        let bytes = read_all(rt.alloc(), &mut source, limit)?;
-        assert!(rt; bytes.is_empty(), "limit {limit}");
+fn reads_all_up_to_the_limit(rt: HostRuntime) {
+    for (text, piece, limit, want) in READINGS.iter() {
+        assert!(rt; *piece >= 1);
+        let read = reads(rt.alloc(), text, *piece, *limit);
+        assert!(rt; read == Ok(*want), "piece {piece}, limit {limit}");
     }
-    Ok(())
+}
+
+// Whether a source in memory is read as its text, or why it isn't read.
+fn reads(
+    alloc: Global,
+    text: &[u8],
+    piece: usize,
+    limit: usize,
+) -> Result<Result<bool, ReadRefusal>, NoMemory>
+    requires { 1 ≤ piece }
+{
+    let mut source = MemSource::new(alloc, text, piece, &[])?;
+    Ok(is_read(alloc, &mut source, limit, text))
+}
+
+// Whether what is left of a source is this.
+fn is_read<S: Source>(
+    alloc: Global,
+    source: &mut S,
+    limit: usize,
+    want: &[u8],
+) -> Result<bool, ReadRefusal> {
+    Ok(read_all(alloc, source, limit)?.as_slice() == want)
 }
 
 #[test]
 fn tells_a_fault_while_reading(rt: HostRuntime) -> Result<(), Fail> {
     let mut source = MemSource::new(rt.alloc(), b"abcdef", 4, &[2])?;
-    let refusal = read_all(rt.alloc(), &mut source, 6).err();
-    assert!(rt; refusal == Some(ReadRefusal::ReadFault));
+    assert!(rt; is_read(rt.alloc(), &mut source, 6, b"") == Err(ReadRefusal::ReadFault));
     // the failed call took nothing
-    let rest = read_all(rt.alloc(), &mut source, 6)?;
-    assert!(rt; rest.as_slice() == b"ef".as_slice());
+    assert!(rt; is_read(rt.alloc(), &mut source, 6, b"ef") == Ok(true));
     Ok(())
 }
+
+// A text that is written, how that is answered, and what the sink then holds.
+type Write = (&'static [u8], Result<(), Failed>, &'static [u8]);
 
 #[test]
-fn writes_all_or_a_prefix(rt: HostRuntime) -> Result<(), Fail> {
-    let mut whole = MemSink::new(rt.alloc(), 10, 2, &[])?;
-    assert!(rt; write_all(&mut whole, b"abcdef") == Ok(()));
-    assert!(rt; whole.held() == b"abcdef".as_slice());
-    assert!(rt; write_all(&mut whole, b"") == Ok(()));
-    assert!(rt; write_all(&mut whole, b"ghij") == Ok(()));
-    assert!(rt; whole.held() == b"abcdefghij".as_slice());
-
-    let mut failing = MemSink::new(rt.alloc(), 10, 2, &[3])?;
-    assert!(rt; write_all(&mut failing, b"abcdef") == Err(Failed));
-    assert!(rt; failing.held() == b"abcd".as_slice());
-
-    let mut small = MemSink::new(rt.alloc(), 3, 2, &[])?;
-    assert!(rt; write_all(&mut small, b"abcde") == Err(Failed));
-    assert!(rt; small.held() == b"abc".as_slice());
-    Ok(())
+fn writes_all_or_a_prefix(rt: HostRuntime) {
+    assert!(rt; are_written(rt.alloc(), 10, &[], &WHOLE) == Ok(true));
+    assert!(rt; are_written(rt.alloc(), 10, &[3], &FAILING) == Ok(true));
+    assert!(rt; are_written(rt.alloc(), 3, &[], &SMALL) == Ok(true));
 }
+
+const WHOLE: [Write; 3] = [
+    (b"abcdef", Ok(()), b"abcdef"),
+    (b"", Ok(()), b"abcdef"),
+    (b"ghij", Ok(()), b"abcdefghij"),
+];
+
+const FAILING: [Write; 1] = [(b"abcdef", Err(Failed), b"abcd")];
+
+const SMALL: [Write; 1] = [(b"abcde", Err(Failed), b"abc")];
+
+// Whether a sink with room for so many bytes, which takes two at a call and fails at these, is written to so.
+fn are_written(
+    alloc: Global,
+    room: usize,
+    fail_at: &[u64],
+    writes: &[Write],
+) -> Result<bool, NoMemory> {
+    let mut sink = MemSink::new(alloc, room, 2, fail_at)?;
+    for (text, answer, held) in writes {
+        if write_all(&mut sink, text) != *answer || sink.held() != *held {
+            return Ok(false);
+        }
+    }
+    Ok(true)
+}
+
+// Reads of at most so many bytes, one behind the other: how each is answered, and what its buffer then has.
+const READS: [(usize, Result<usize, Failed>, &[u8]); 6] = [
+    (3, Err(Failed), b"---"),
+    (3, Ok(2), b"ab-"),
+    (1, Ok(1), b"cb-"),
+    (3, Err(Failed), b"cb-"),
+    (3, Ok(2), b"de-"),
+    (3, Ok(0), b"de-"),
+];
 
 #[test]
 fn a_source_fails_at_its_listed_calls(rt: HostRuntime) -> Result<(), Fail> {
     let mut source = MemSource::new(rt.alloc(), b"abcde", 2, &[4, 1])?;
     let mut buffer = [b'-'; 3];
-    assert!(rt; source.read(&mut buffer) == Err(Failed));
-    assert!(rt; source.read(&mut buffer) == Ok(2));
-    assert!(rt; buffer == *b"ab-");
-    assert!(rt; source.read(&mut buffer[..1]) == Ok(1));
-    assert!(rt; buffer == *b"cb-");
-    assert!(rt; source.read(&mut buffer) == Err(Failed));
-    assert!(rt; source.read(&mut buffer) == Ok(2));
-    assert!(rt; buffer == *b"de-");
-    assert!(rt; source.read(&mut buffer) == Ok(0));
+    for (room, answer, held) in READS.iter() {
+        assert!(rt; *room <= 3);
+        assert!(rt; source.read(&mut buffer[..*room]) == *answer);
+        assert!(rt; buffer.as_slice() == *held);
+    }
     Ok(())
 }
+
+// Writes, one behind the other: how each is answered, and what the sink then holds.
+const SINK_WRITES: [(&[u8], Result<usize, Failed>, &[u8]); 5] = [
+    (b"abcde", Ok(3), b"abc"),
+    (b"de", Err(Failed), b"abc"),
+    (b"d", Ok(1), b"abcd"),
+    (b"ef", Ok(1), b"abcde"),
+    (b"f", Err(Failed), b"abcde"),
+];
 
 #[test]
 fn a_sink_fails_at_its_listed_calls(rt: HostRuntime) -> Result<(), Fail> {
     let mut sink = MemSink::new(rt.alloc(), 5, 3, &[2])?;
-    assert!(rt; sink.write(b"abcde") == Ok(3));
-    assert!(rt; sink.write(b"de") == Err(Failed));
-    assert!(rt; sink.held() == b"abc".as_slice());
-    assert!(rt; sink.write(b"d") == Ok(1));
-    assert!(rt; sink.write(b"ef") == Ok(1));
-    assert!(rt; sink.held() == b"abcde".as_slice());
-    assert!(rt; sink.write(b"f") == Err(Failed));
-    assert!(rt; sink.held() == b"abcde".as_slice());
+    for (text, answer, held) in SINK_WRITES.iter() {
+        assert!(rt; sink.write(text) == *answer);
+        assert!(rt; sink.held() == *held);
+    }
     Ok(())
 }
 
 #[test]
-fn the_standard_streams_answer(rt: HostRuntime) -> Result<(), Fail> {
+fn the_standard_streams_answer(rt: HostRuntime) {
     // a test's own input is empty
     let mut source = StdSource::new(rt.stdin());
     assert!(rt; source.read(&mut [0; 4]) == Ok(0));
-    let bytes = read_all(rt.alloc(), &mut source, 0)?;
-    assert!(rt; bytes.is_empty());
+    assert!(rt; is_read(rt.alloc(), &mut source, 0, b"") == Ok(true));
     let mut out = StdSink::new(rt.stdout());
     assert!(rt; write_all(&mut out, b"a whole line\n") == Ok(()));
     let mut errors = StdSink::new(rt.stderr());
     assert!(rt; write_all(&mut errors, b"a whole line\n") == Ok(()));
-    Ok(())
 }
